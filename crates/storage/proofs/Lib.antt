@@ -1,0 +1,5 @@
+pub mod Booleans
+pub mod Splice
+pub mod Numbers
+pub mod Compare
+pub mod Runs
