@@ -5,11 +5,11 @@ use mathlib.Core.Path.{_≡_, refl, ap, sym, _∙_}
 use mathlib.Core.Bool.{Bool, true, false}
 use native.Mathlib.Omega.{arith}
 use native.Mathlib.Numerals.{add-one, add-two, add-three}
-use native.Mathlib.Nat.{add-zero, sub-zero}
+use native.Mathlib.Nat.{add-zero, sub-zero, zero-sub}
 use lib.Dec.{eqb}
 use borrow.Author.Tests.{eq-eqb, ne-eqb}
 use lib.ListN.{length, take, drop, getD, set, length-set, length-replicate, getD-replicate, length-drop}
-use lib.Seq.{slice, slice-empty, slice-cons, take-suc, take-all, drop-cons, drop-length, length-take-le, getD-take, getD-drop}
+use lib.Seq.{slice, slice-empty, slice-cons, take-suc, take-all, drop-cons, drop-length, take-nil, length-take-le, getD-take, getD-drop}
 use Rattle.storage.specs.Bytes.{be32, be64, splice, zeros, zeroed, same}
 use Rattle.storage.proofs.Splice.{sets-splice, splice-append, splice-none}
 use Rattle.storage.proofs.Numbers.{length-be32, length-be64}
@@ -118,6 +118,15 @@ length-part s a n h = length-take-le n (drop a s) (omega (arith, length-drop a s
 
 pub getD-part : (s : List ℕ) (a n i : ℕ) → i < n → getD (take n (drop a s)) i 0 ≡ getD s (a + i) 0
 getD-part s a n i h = getD-take n (drop a s) i 0 h ∙ getD-drop a s i 0
+
+-- the bytes from p on, of the first n
+pub drop-take : (p n : ℕ) (s : List ℕ) → drop p (take n s) ≡ take (n - p) (drop p s)
+drop-take zero n s = ap (λ (m : ℕ). take m s) (sym (sub-zero n))
+drop-take (suc p) zero s = ap (λ (m : ℕ). take m (drop (suc p) s)) (sym (zero-sub (suc p)))
+drop-take (suc p) (suc n) [] = sym (take-nil (suc n - suc p))
+drop-take (suc p) (suc n) (x ∷ s) =
+    let e : n - p ≡ suc n - suc p = omega arith in
+    drop-take p n s ∙ ap (λ (m : ℕ). take m (drop p s)) e
 
 -- ---- the stores of a number
 

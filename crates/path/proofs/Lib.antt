@@ -1,0 +1,5 @@
+pub mod Walk
+pub mod Names
+pub mod Parts
+pub mod Valid
+pub mod Paths
