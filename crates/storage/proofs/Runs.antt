@@ -100,12 +100,12 @@ module _ {s : List ℕ} {a : ℕ} {x t : List ℕ} {i : ℕ} (w : Stored s a x t
         inside = omega arith;
         long = length-set t p v ∙ w .long;
         is = sets-splice (v ∷ []) t p (omega (arith, w .inside, w .long))
-        ∙ ap (λ (y : List ℕ). splice y p (v ∷ [])) (w .is)
-        ∙ ap (λ (n : ℕ). splice (splice s a (take i x)) n (v ∷ [])) (e ∙ ap (λ (n : ℕ). a + n) (sym k))
-        ∙ sym (splice-append s (take i x) (v ∷ []) a (omega (arith, w .inside)))
-        ∙ ap (λ (n : ℕ). splice s a (take i x ++ (n ∷ []))) f
-        ∙ ap (splice s a) (sym (take-suc x i 0 l))
-        ∙ ap (λ (n : ℕ). splice s a (take n x)) (sym (add-one i));
+            ∙ ap (λ (y : List ℕ). splice y p (v ∷ [])) (w .is)
+            ∙ ap (λ (n : ℕ). splice (splice s a (take i x)) n (v ∷ [])) (e ∙ ap (λ (n : ℕ). a + n) (sym k))
+            ∙ sym (splice-append s (take i x) (v ∷ []) a (omega (arith, w .inside)))
+            ∙ ap (λ (n : ℕ). splice s a (take i x ++ (n ∷ []))) f
+            ∙ ap (splice s a) (sym (take-suc x i 0 l))
+            ∙ ap (λ (n : ℕ). splice s a (take n x)) (sym (add-one i));
       }
 
   pub stored-end : length x ≤ i → t ≡ splice s a x
