@@ -11,18 +11,13 @@ use Rattle.alloc.specs.Block.{Block, unitsFor, units, render}
 use Rattle.alloc.specs.Tiling.{otherKind, kindAllowed}
 use Rattle.alloc.specs.Volume.{Extent, Volume, toBlocks, image, allocated, free}
 use Rattle.alloc.specs.Room.{remainder, Placed, released, updated}
-use Rattle.alloc.specs.Sound.{SoundExtent, AllSound, apart, endOf}
+use Rattle.alloc.specs.Sound.{SoundExtent, AllSound, apart, endOf, SoundExtents}
 use Rattle.alloc.proofs.Heads.{end-append, end-ge, headOf, volume, image-split, length-head}
 use Rattle.alloc.proofs.Data.{Found, sound-front, sound-back, sound-join, spliced, updated-split}
 use Rattle.alloc.proofs.Placing.{Fit, sound-gap}
 use Rattle.alloc.proofs.Releasing.{Neat, Ending, ending, apart-post, swallowed, swallowedBytes, beyond, joined, apart-joined, released-closed, released-open, length-zeroed, length-swallowed, closed, open-at}
 
-pub record SoundExtents (es : List Extent) : Type 0 where
-  pub sound : AllSound es
-  pub neighbours : apart es ≡ true
-  pub small : endOf 2 es < 134217729
-
--- ys is good and as long as es
+-- ys is sound and as long as es
 abbrev pub Kept : List Extent → List Extent → Type 0
 Kept es ys = SoundExtents ys × (endOf 2 ys ≡ endOf 2 es)
 

@@ -13,8 +13,10 @@ pub mod Walks
 pub mod Soundness
 pub mod Held
 pub mod Lookups
+pub mod Changes
 pub mod Fits
 pub mod Stores
 pub mod Neighbours
 pub mod Plans
 pub mod Fitting
+pub mod Pairs

@@ -1,13 +1,16 @@
 // Placing both blocks of a new object, or neither: whether both have room is decided before a byte is written.
 
+use crate::block;
+use crate::place::Placing;
 use storage::Pos;
 use storage::Ref;
 ghost use mathlib.Core.Path.{_≡_};
 ghost use Prim.Native.Nat.{max, min};
 ghost use Rattle.alloc.specs.Volume.{volumeOf};
-ghost use Rattle.alloc.specs.Sound.{Sound};
+ghost use Rattle.alloc.specs.Block.{SFna};
+ghost use Rattle.alloc.specs.Sound.{Sound, Object};
 ghost use Rattle.alloc.specs.Steps.{largest};
-ghost use Rattle.alloc.specs.Answers.{largestOf, DecidesPair};
+ghost use Rattle.alloc.specs.Answers.{largestOf, DecidesPair, twoAt, PlacesTwo, TwoFit, pairAt, PlacesPair};
 
 // The units of the largest free block, and of the largest but one.
 pub struct Largest {
@@ -67,4 +70,56 @@ pub fn fits(image: &[u8], a: u64, b: u64) -> bool
         return false;
     }
     (less <= first - more) | (less <= second)
+}
+
+// Where two blocks were placed, the first and the second.
+pub enum Two {
+    NoRoom,
+    At(Ref, Ref),
+}
+
+// One block and then another, both of which have room.
+fn both(image: &mut [u8], magic: u32, size: u32, magic2: u32, size2: u32) -> Two
+    requires { ⌜ TwoFit (now image) magic size magic2 size2 ⌝ }
+    ensures { λ p. ⌜ PlacesTwo (now (image .entry)) magic size magic2 size2 (twoAt p) (now (image .exit)) ⌝ }
+{
+    let placed = crate::place::block(image, magic, size);
+    let Placing::At(first) = placed else {
+        return Two::NoRoom;
+    };
+    let other = crate::place::block(image, magic2, size2);
+    let Placing::At(second) = other else {
+        return Two::NoRoom;
+    };
+    Two::At(first, second)
+}
+
+// Where a new object was placed: its name and the object.
+pub enum Pair {
+    NoRoom,
+    At(Ref, Ref),
+}
+
+// A name and an object whose data is zeros: the one with more units first; equal, the name first. Or neither.
+pub fn place(image: &mut [u8], length: u32, magic: u32, size: u32) -> Pair
+    requires { ⌜ Sound (now image) × Object SFna length × Object magic size ⌝ }
+    ensures { λ p. ⌜ PlacesPair (now (image .entry)) length magic size (pairAt p) (now (image .exit)) ⌝ }
+{
+    let a = block::units_for(length);
+    let b = block::units_for(size);
+    if !fits(image, a, b) {
+        return Pair::NoRoom;
+    }
+    if a < b {
+        let larger_first = both(image, magic, size, block::SFNA, length);
+        let Two::At(object, name) = larger_first else {
+            return Pair::NoRoom;
+        };
+        return Pair::At(name, object);
+    }
+    let name_first = both(image, block::SFNA, length, magic, size);
+    let Two::At(name, object) = name_first else {
+        return Pair::NoRoom;
+    };
+    Pair::At(name, object)
 }
