@@ -1,0 +1,399 @@
+// A short walk through the allocation layer: an image built by hand, its blocks, placements and releases.
+
+use alloc::objects::Kind;
+use alloc::pair::Pair;
+use alloc::place::Placing;
+use alloc::tiling::Tiling;
+use libc::STDOUT_FILENO;
+use storage::Ref;
+ghost use Prim.Native.Nat.{_+_, _*_, _≤_};
+ghost use mathlib.Core.Path.{_≡_};
+ghost use lib.Dec.{ltb};
+ghost use lib.ListN.{length};
+ghost use Rattle.alloc.specs.Sound.{Object};
+ghost use Rattle.alloc.specs.Block.{SFna};
+ghost use Rattle.alloc.specs.Answers.{kindMagic};
+ghost use Rattle.alloc_walk.specs.Checked.{Checked};
+
+fn say(text: &[u8]) {
+    io::write_all(STDOUT_FILENO, text);
+}
+
+fn say_number(text: &[u8], n: u64) {
+    say(text);
+    io::print_decimal(STDOUT_FILENO, n);
+}
+
+// Whether the image keeps rules 1 and 8; where it does not, the line says why.
+fn sound(image: &[u8]) -> bool
+    ensures { λ t. ⌜ Checked (now (image .entry)) t ⌝ }
+{
+    let tiling = alloc::tiling::check(image);
+    let Tiling::Whole = tiling else {
+        say(b"rule 1 is broken\n");
+        return false;
+    };
+    if alloc::chain::check(image) {
+        return true;
+    }
+    say(b"rule 8 is broken\n");
+    false
+}
+
+// One line for a block: its ref, its magic and its units.
+fn show_block(image: &[u8], r: Ref)
+    requires { ⌜ 16 * r .0 + 16 ≤ length (now image) ⌝ }
+{
+    say_number(b"  ", r.0);
+    say(b" ");
+    let from = storage::start(r).0;
+    let to = from + 4;
+    say(&image[from..to]);
+    say_number(b" ", alloc::block::units_at(image, r));
+    say(b"\n");
+}
+
+// A line for each block, and the free room.
+fn show(image: &[u8]) {
+    if !sound(image) {
+        return;
+    }
+    let len = image.len();
+    let mut r = Ref(2);
+    let mut at: usize = 32;
+    while at < len {
+        show_block(image, r);
+        r = alloc::block::after(image, r);
+        at = storage::start(r).0;
+    }
+    say_number(b"  root ", alloc::chain::root(image).0);
+    say_number(b", first free ", alloc::chain::first_free(image).0);
+    say_number(b", free units ", alloc::chain::free_units(image));
+    say(b"\n");
+}
+
+fn place(image: &mut [u8], magic: u32, size: u32)
+    requires { ⌜ Object magic size ⌝ }
+{
+    if !sound(image) {
+        return;
+    }
+    match alloc::place::block(image, magic, size) {
+        Placing::NoRoom => say(b"no room\n"),
+        Placing::At(r) => {
+            say_number(b"placed at ", r.0);
+            say(b"\n");
+        }
+    }
+}
+
+fn place_pair(image: &mut [u8], length: u32, magic: u32, size: u32)
+    requires { ⌜ Object SFna length × Object magic size ⌝ }
+{
+    if !sound(image) {
+        return;
+    }
+    match alloc::pair::place(image, length, magic, size) {
+        Pair::NoRoom => say(b"no room for both\n"),
+        Pair::At(name, object) => {
+            say_number(b"name placed at ", name.0);
+            say_number(b", object at ", object.0);
+            say(b"\n");
+        }
+    }
+}
+
+// Whether there is an object of this kind.
+fn is_object(k: Kind) -> bool
+    ensures { λ t. ⌜ t ≡ ltb 0 (kindMagic k) ⌝ }
+{
+    match k {
+        Kind::Nothing => false,
+        Kind::Directory => true,
+        Kind::Name => true,
+        Kind::File => true,
+    }
+}
+
+fn release(image: &mut [u8], t: Ref) {
+    if !sound(image) {
+        return;
+    }
+    if !is_object(alloc::objects::kind_at(image, t)) {
+        say_number(b"nothing begins at ", t.0);
+        say(b"\n");
+        return;
+    }
+    alloc::release::block(image, t);
+    say_number(b"released ", t.0);
+    say(b"\n");
+}
+
+// 240 bytes, a unit to a line.
+fn built() -> [u8; 240] {
+    [
+        // 0: the superblock: root 2, first free 4
+        0x53,
+        0x46,
+        0x30,
+        0x31,
+        0x00,
+        0x00,
+        0x00,
+        0x10,
+        0x00,
+        0x00,
+        0x00,
+        0x00,
+        0x00,
+        0x00,
+        0x00,
+        0x02,
+        0x00,
+        0x00,
+        0x00,
+        0x00,
+        0x00,
+        0x00,
+        0x00,
+        0x04,
+        0x00,
+        0x00,
+        0x00,
+        0x00,
+        0x00,
+        0x00,
+        0x00,
+        0x00,
+        // 2: a directory of one slot
+        0x53,
+        0x46,
+        0x64,
+        0x65,
+        0x00,
+        0x00,
+        0x00,
+        0x18,
+        0x00,
+        0x00,
+        0x00,
+        0x00,
+        0x00,
+        0x00,
+        0x00,
+        0x02,
+        0x00,
+        0x00,
+        0x00,
+        0x00,
+        0x00,
+        0x00,
+        0x00,
+        0x00,
+        0x00,
+        0x00,
+        0x00,
+        0x00,
+        0x00,
+        0x00,
+        0x00,
+        0x00,
+        // 4: a free block of 3 units; the next is at 8
+        0x53,
+        0x46,
+        0x66,
+        0x72,
+        0x00,
+        0x00,
+        0x00,
+        0x28,
+        0x00,
+        0x00,
+        0x00,
+        0x00,
+        0x00,
+        0x00,
+        0x00,
+        0x08,
+        0x00,
+        0x00,
+        0x00,
+        0x00,
+        0x00,
+        0x00,
+        0x00,
+        0x00,
+        0x00,
+        0x00,
+        0x00,
+        0x00,
+        0x00,
+        0x00,
+        0x00,
+        0x00,
+        0x00,
+        0x00,
+        0x00,
+        0x00,
+        0x00,
+        0x00,
+        0x00,
+        0x00,
+        0x00,
+        0x00,
+        0x00,
+        0x00,
+        0x00,
+        0x00,
+        0x00,
+        0x00,
+        // 7: the name "heel"
+        0x53,
+        0x46,
+        0x6e,
+        0x61,
+        0x00,
+        0x00,
+        0x00,
+        0x04,
+        0x68,
+        0x65,
+        0x65,
+        0x6c,
+        0x00,
+        0x00,
+        0x00,
+        0x00,
+        // 8: a free block of 7 units
+        0x53,
+        0x46,
+        0x66,
+        0x72,
+        0x00,
+        0x00,
+        0x00,
+        0x68,
+        0x00,
+        0x00,
+        0x00,
+        0x00,
+        0x00,
+        0x00,
+        0x00,
+        0x00,
+        0x00,
+        0x00,
+        0x00,
+        0x00,
+        0x00,
+        0x00,
+        0x00,
+        0x00,
+        0x00,
+        0x00,
+        0x00,
+        0x00,
+        0x00,
+        0x00,
+        0x00,
+        0x00,
+        0x00,
+        0x00,
+        0x00,
+        0x00,
+        0x00,
+        0x00,
+        0x00,
+        0x00,
+        0x00,
+        0x00,
+        0x00,
+        0x00,
+        0x00,
+        0x00,
+        0x00,
+        0x00,
+        0x00,
+        0x00,
+        0x00,
+        0x00,
+        0x00,
+        0x00,
+        0x00,
+        0x00,
+        0x00,
+        0x00,
+        0x00,
+        0x00,
+        0x00,
+        0x00,
+        0x00,
+        0x00,
+        0x00,
+        0x00,
+        0x00,
+        0x00,
+        0x00,
+        0x00,
+        0x00,
+        0x00,
+        0x00,
+        0x00,
+        0x00,
+        0x00,
+        0x00,
+        0x00,
+        0x00,
+        0x00,
+        0x00,
+        0x00,
+        0x00,
+        0x00,
+        0x00,
+        0x00,
+        0x00,
+        0x00,
+        0x00,
+        0x00,
+        0x00,
+        0x00,
+        0x00,
+        0x00,
+        0x00,
+        0x00,
+        0x00,
+        0x00,
+        0x00,
+        0x00,
+        0x00,
+        0x00,
+        0x00,
+        0x00,
+        0x00,
+        0x00,
+        0x00,
+        0x00,
+        0x00,
+        0x00,
+        0x00,
+        0x00,
+    ]
+}
+
+fn main() {
+    let mut image = built();
+    say(b"built by hand\n");
+    show(&image);
+    place_pair(&mut image, 9, alloc::block::SFRE, 40);
+    show(&image);
+    place(&mut image, alloc::block::SFRE, 80);
+    place(&mut image, alloc::block::SFRE, 16);
+    show(&image);
+    release(&mut image, Ref(5));
+    release(&mut image, Ref(7));
+    show(&image);
+    release(&mut image, Ref(4));
+    show(&image);
+    image[31] = 1;
+    show(&image);
+}
