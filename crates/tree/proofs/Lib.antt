@@ -1,0 +1,12 @@
+pub mod Breakers
+pub mod Indexed
+pub mod Namings
+pub mod BlockRules
+pub mod Tiles
+pub mod Chain
+pub mod Verdicts
+pub mod Formed
+pub mod Rows
+pub mod Visits
+pub mod Tests
+pub mod Judging

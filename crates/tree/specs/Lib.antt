@@ -1,0 +1,5 @@
+pub mod Fields
+pub mod Rules
+pub mod Verdict
+pub mod WellFormed
+pub mod Answers

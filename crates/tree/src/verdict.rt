@@ -1,0 +1,160 @@
+// The verdict on an image: the lowest-numbered broken rule, and the first block in storage order that breaks it.
+
+use crate::fields;
+use alloc::block;
+use alloc::objects;
+use alloc::tiling::Tiling;
+use storage::Ref;
+ghost use mathlib.Core.Path.{_≡_};
+ghost use Rattle.alloc.specs.Block.{blockOf};
+ghost use Rattle.alloc.specs.Volume.{volumeOf, objects, chained};
+ghost use Rattle.alloc.specs.Sound.{Tiled, Standing};
+ghost use Rattle.tree.specs.Rules.{rootStands};
+ghost use Rattle.tree.specs.Verdict.{breakerOf, keeps, verdictOn, verdict};
+ghost use Rattle.tree.specs.Answers.{ruleOf, breachAt, placeOf, verdictOf, spared, Ready, ReadyAt};
+
+// The rules that are looked at block by block.
+pub enum Rule {
+    Slots,
+    Naming,
+    Depth,
+    Names,
+    Files,
+}
+
+// The first block that breaks a rule.
+pub enum Breach {
+    Nowhere,
+    At(Ref),
+}
+
+// Rule 2.
+fn root_stands(image: &[u8], root: Ref) -> bool
+    requires { ⌜ Tiled (now image) ⌝ }
+    ensures { λ t. ⌜ t ≡ rootStands (objects (volumeOf (now (image .entry)))) (root .0) ⌝ }
+{
+    if !fields::is_directory(objects::kind_at(image, root)) {
+        return false;
+    }
+    fields::parent_of(image, root).0 == root.0
+}
+
+// A rule of the block at `r`. Free blocks break none of these.
+fn keeps_rule(image: &[u8], rule: Rule, root: Ref, r: Ref) -> bool
+    requires { ⌜ ReadyAt (now image) (ruleOf rule) (root .0) (r .0) ⌝ }
+    ensures { λ t. ⌜ t ≡ spared (keeps (ruleOf rule) (objects (volumeOf (now (image .entry)))) (root .0)) (r .0) (blockOf (now (image .entry)) (r .0)) ⌝ }
+{
+    if block::magic_at(image, r) == block::SFFR {
+        return true;
+    }
+    match rule {
+        Rule::Slots => crate::slots::keeps(image, r),
+        Rule::Naming => crate::naming::keeps(image, root, r),
+        Rule::Depth => crate::depth::keeps(image, root, r),
+        Rule::Names => crate::names::keeps(image, r),
+        Rule::Files => crate::files::keeps(image, r),
+    }
+}
+
+// The first block that breaks a rule.
+fn first_breaker(image: &[u8], rule: Rule, root: Ref) -> Breach
+    requires { ⌜ Ready (now image) (ruleOf rule) (root .0) ⌝ }
+    ensures { λ b. ⌜ breachAt b ≡ breakerOf (ruleOf rule) (objects (volumeOf (now (image .entry)))) (root .0) ⌝ }
+{
+    let len = image.len();
+    let mut r = Ref(2);
+    let mut at: usize = 32;
+    while at < len {
+        if !keeps_rule(image, rule, root, r) {
+            return Breach::At(r);
+        }
+        r = block::after(image, r);
+        at = storage::start(r).0;
+    }
+    Breach::Nowhere
+}
+
+// The lowest-numbered broken rule, 0 where none is, and its place.
+pub struct Verdict {
+    pub rule: u8,
+    pub place: Ref,
+}
+
+fn place_of(b: Breach) -> Ref
+    ensures { λ r. ⌜ r .0 ≡ placeOf (breachAt b) ⌝ }
+{
+    match b {
+        Breach::Nowhere => Ref(0),
+        Breach::At(r) => r,
+    }
+}
+
+// Rules 2 to 8, of an image that keeps rule 1.
+fn after_tiling(image: &[u8]) -> Verdict
+    requires { ⌜ Tiled (now image) ⌝ }
+    ensures { λ v. ⌜ verdictOf v ≡ verdictOn (objects (volumeOf (now (image .entry)))) (volumeOf (now (image .entry)) .root) (chained (now (image .entry))) ⌝ }
+{
+    let root = alloc::chain::root(image);
+    if !root_stands(image, root) {
+        return Verdict {
+            rule: 2,
+            place: Ref(0),
+        };
+    }
+    let slots = first_breaker(image, Rule::Slots, root);
+    let Breach::Nowhere = slots else {
+        return Verdict {
+            rule: 3,
+            place: place_of(slots),
+        };
+    };
+    let naming = first_breaker(image, Rule::Naming, root);
+    let Breach::Nowhere = naming else {
+        return Verdict {
+            rule: 4,
+            place: place_of(naming),
+        };
+    };
+    let depth = first_breaker(image, Rule::Depth, root);
+    let Breach::Nowhere = depth else {
+        return Verdict {
+            rule: 5,
+            place: place_of(depth),
+        };
+    };
+    let names = first_breaker(image, Rule::Names, root);
+    let Breach::Nowhere = names else {
+        return Verdict {
+            rule: 6,
+            place: place_of(names),
+        };
+    };
+    let files = first_breaker(image, Rule::Files, root);
+    let Breach::Nowhere = files else {
+        return Verdict {
+            rule: 7,
+            place: place_of(files),
+        };
+    };
+    if alloc::chain::check(image) {
+        return Verdict {
+            rule: 0,
+            place: Ref(0),
+        };
+    }
+    Verdict {
+        rule: 8,
+        place: Ref(0),
+    }
+}
+
+// The verdict, for any bytes.
+pub fn judge(image: &[u8]) -> Verdict
+    ensures { λ v. ⌜ verdictOf v ≡ verdict (now (image .entry)) ⌝ }
+{
+    let tiling = alloc::tiling::check(image);
+    match tiling {
+        Tiling::Broken(place) => Verdict { rule: 1, place },
+        Tiling::Whole => after_tiling(image),
+    }
+}
