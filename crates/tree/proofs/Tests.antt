@@ -308,9 +308,9 @@ module _ (os : Objects) (r : ℕ) (b : Block) where
 
 -- ---- rule 7
 
-pub file-size : {s : List ℕ} {r : ℕ} → Standing s r → magicAt s r ≡ SFre → (16 ≤ sizeAt s r) × (sizeAt s r ≤ 65552)
+pub file-data-size : {s : List ℕ} {r : ℕ} → Standing s r → magicAt s r ≡ SFre → (16 ≤ sizeAt s r) × (sizeAt s r ≤ 65552)
 unfolding otherKind
-file-size {s} {r} w e = go (sizeAt s r) (subst (λ (m : ℕ). otherKind m (sizeAt s r) ≡ true) e (w .kind))
+file-data-size {s} {r} w e = go (sizeAt s r) (subst (λ (m : ℕ). otherKind m (sizeAt s r) ≡ true) e (w .kind))
   where
     go : (n : ℕ) → otherKind SFre n ≡ true → (16 ≤ n) × (n ≤ 65552)
     go n e =
