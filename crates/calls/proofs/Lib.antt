@@ -1,0 +1,4 @@
+pub mod Stands
+pub mod Steps
+pub mod Contents
+pub mod Outcomes
