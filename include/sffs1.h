@@ -1,0 +1,38 @@
+/* sffs1: a small flat file store in one image of bytes.
+
+   Every call answers for every image, path and number: nothing need be checked before. It returns 0 where it is
+   accepted, or the number of its refusal (README.md). A refusal sets every lent number to 0 and changes no other
+   lent byte. Lent numbers, buffers and images must not overlap. */
+
+#ifndef SFFS1_H
+#define SFFS1_H
+
+#include <stddef.h>
+#include <stdint.h>
+
+#ifdef __cplusplus
+extern "C" {
+#endif
+
+/* Whether the image is well formed: 0, or 1 where it is not. */
+uint8_t sffs1_check(const uint8_t *image, size_t image_len);
+
+/* What the path names: its ref, and whether it is a directory (0 or 1). A file has its size and room in first and
+   second, a directory its taken slots and its slots in all. */
+uint8_t sffs1_find(const uint8_t *image, size_t image_len, const uint8_t *path, size_t path_len,
+                   uint64_t *ref, uint8_t *directory, uint64_t *first, uint64_t *second);
+
+/* The bytes of a file from the position on, to the front of the buffer, as many as the file and the buffer have.
+   Tells their count; the rest of the buffer is unchanged. */
+uint8_t sffs1_read(const uint8_t *image, size_t image_len, const uint8_t *path, size_t path_len,
+                   uint64_t position, uint8_t *buffer, size_t buffer_len, uint64_t *count);
+
+/* Point `number`, from 1 to 4096, of a file: 16 bytes, never a part of a point. Zeros on a refusal. */
+uint8_t sffs1_read_point(const uint8_t *image, size_t image_len, const uint8_t *path, size_t path_len,
+                         uint64_t number, uint8_t point[16]);
+
+#ifdef __cplusplus
+}
+#endif
+
+#endif
