@@ -1,8 +1,8 @@
-/* sffs1: a small flat file store in one image of bytes.
+/* sffs1, the single-file filesystem version 1: a file store in one image of bytes.
 
    Every call answers for every image, path and number: nothing need be checked before. It returns 0 where it is
-   accepted, or the number of its refusal (README.md). A refusal sets every lent number to 0 and changes no other
-   lent byte. Lent numbers, buffers and images must not overlap. */
+   accepted, or the number of its refusal (README.md). A refusal sets every lent number to 0 and changes no
+   byte of a buffer. Lent numbers, buffers and images must not overlap. */
 
 #ifndef SFFS1_H
 #define SFFS1_H
