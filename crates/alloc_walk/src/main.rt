@@ -4,7 +4,8 @@ use alloc::objects::Kind;
 use alloc::pair::Pair;
 use alloc::place::Placing;
 use alloc::tiling::Tiling;
-use libc::STDOUT_FILENO;
+use show::say;
+use show::say_number;
 use storage::Ref;
 ghost use Prim.Native.Nat.{_+_, _*_, _≤_};
 ghost use mathlib.Core.Path.{_≡_};
@@ -14,15 +15,6 @@ ghost use Rattle.alloc.specs.Sound.{Object};
 ghost use Rattle.alloc.specs.Block.{SFna};
 ghost use Rattle.alloc.specs.Answers.{kindMagic};
 ghost use Rattle.alloc_walk.specs.Checked.{Checked};
-
-fn say(text: &[u8]) {
-    io::write_all(STDOUT_FILENO, text);
-}
-
-fn say_number(text: &[u8], n: u64) {
-    say(text);
-    io::print_decimal(STDOUT_FILENO, n);
-}
 
 // Whether the image keeps rules 1 and 8; where it does not, the line says why.
 fn sound(image: &[u8]) -> bool

@@ -1,13 +1,13 @@
 // Damage to the blocks: rules 1 and 8.
 
 use crate::cards;
-use crate::cards::DIRECTORY;
-use crate::cards::FILE;
-use crate::cards::FREE;
-use crate::cards::NAME;
-use crate::cards::SUPERBLOCK;
 use crate::show_card;
 use crate::show_words;
+use show::DIRECTORY;
+use show::FILE;
+use show::FREE;
+use show::NAME;
+use show::SUPERBLOCK;
 
 fn unknown_kind(mut w: [u64; 32]) -> [u64; 32] {
     w[26] = FREE + 24;

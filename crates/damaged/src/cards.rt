@@ -1,14 +1,10 @@
 // Undamaged images, a word of 8 bytes to a line: the block at ref r begins at word 2r. A block's first word is its magic and its size.
 
-pub const SUPERBLOCK: u64 = 0x53463031_00000000;
-
-pub const DIRECTORY: u64 = 0x53466465_00000000;
-
-pub const NAME: u64 = 0x53466e61_00000000;
-
-pub const FILE: u64 = 0x53467265_00000000;
-
-pub const FREE: u64 = 0x53466672_00000000;
+use show::DIRECTORY;
+use show::FILE;
+use show::FREE;
+use show::NAME;
+use show::SUPERBLOCK;
 
 // Formatted with 2 slots; then the file /heel with room 32 and the directory /a with 1 slot were made. 256 bytes.
 pub fn card() -> [u64; 32] {

@@ -1,23 +1,15 @@
 // Damaged images, each with the verdict on it: the lowest-numbered broken rule, and the first block that breaks it. Each image breaks one rule
 // only, but for the name of 65 bytes, which breaks rules 1 and 6. Some undamaged ones stand between them.
 
-use libc::STDOUT_FILENO;
-use storage::Offset;
+use show::say;
+use show::say_number;
+use show::spread;
 ghost use mathlib.Core.Path.{_≡_};
 ghost use lib.ListN.{length};
 
 mod blocks;
 mod cards;
 mod trees;
-
-fn say(text: &[u8]) {
-    io::write_all(STDOUT_FILENO, text);
-}
-
-fn say_number(text: &[u8], n: u64) {
-    say(text);
-    io::print_decimal(STDOUT_FILENO, n);
-}
 
 // The line of an image: what is wrong with it, the rule and the place.
 fn show(text: &[u8], image: &[u8]) {
@@ -28,20 +20,6 @@ fn show(text: &[u8], image: &[u8]) {
         say_number(b" at ", verdict.place.0);
     }
     say(b"\n");
-}
-
-// The words from the front of the image on, as many as there is room for.
-fn spread(words: &[u64], image: &mut [u8]) {
-    let mut at: usize = 0;
-    let mut i: usize = 0;
-    while i < words.len() {
-        if image.len() - at < 8 {
-            return;
-        }
-        storage::write_u64(image, Offset(at), words[i]);
-        at += 8;
-        i += 1;
-    }
 }
 
 // The longest image and a unit more.

@@ -1,12 +1,12 @@
 // Damage to the tree: rules 2 to 7.
 
 use crate::cards;
-use crate::cards::DIRECTORY;
-use crate::cards::FILE;
-use crate::cards::FREE;
-use crate::cards::NAME;
 use crate::show_card;
 use crate::show_words;
+use show::DIRECTORY;
+use show::FILE;
+use show::FREE;
+use show::NAME;
 
 fn root_below(mut w: [u64; 32]) -> [u64; 32] {
     w[5] = 10;

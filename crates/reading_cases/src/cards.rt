@@ -1,30 +1,11 @@
 // Images, a word of 8 bytes to a line: the block at ref r begins at word 2r. A block's first word is its magic and its size.
 
-use storage::Offset;
-
-const SUPERBLOCK: u64 = 0x53463031_00000000;
-
-const DIRECTORY: u64 = 0x53466465_00000000;
-
-const NAME: u64 = 0x53466e61_00000000;
-
-const FILE: u64 = 0x53467265_00000000;
-
-const FREE: u64 = 0x53466672_00000000;
-
-// The words from the front of the image on, as many as there is room for.
-fn spread(words: &[u64], image: &mut [u8]) {
-    let mut at: usize = 0;
-    let mut i: usize = 0;
-    while i < words.len() {
-        if image.len() - at < 8 {
-            return;
-        }
-        storage::write_u64(image, Offset(at), words[i]);
-        at += 8;
-        i += 1;
-    }
-}
+use show::DIRECTORY;
+use show::FILE;
+use show::FREE;
+use show::NAME;
+use show::SUPERBLOCK;
+use show::spread;
 
 // The root and the file /heel: 40 bytes, 1 to 40, in room 48.
 fn front() -> [u64; 20] {

@@ -3,17 +3,10 @@
 use calls::reading;
 use calls::reading::Kind;
 use libc::STDOUT_FILENO;
+use show::say;
+use show::say_number;
 
 mod cards;
-
-fn say(text: &[u8]) {
-    io::write_all(STDOUT_FILENO, text);
-}
-
-fn say_number(text: &[u8], n: u64) {
-    say(text);
-    io::print_decimal(STDOUT_FILENO, n);
-}
 
 // The path in quotes, since it may be empty.
 fn say_path(text: &[u8], path: &[u8]) {

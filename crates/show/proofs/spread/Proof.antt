@@ -3,8 +3,8 @@ use Prim.Native.Nat.{_≤_, _-_}
 use mathlib.Core.Path.{_≡_}
 use lib.ListN.{length}
 use borrow.Author.Needs.{needs}
-use Rattle.reading_cases.proofs.cards.spread.Statement.{statement}
-use Rattle.reading_cases.proofs.cards.spread.Tie as tie
+use Rattle.show.proofs.spread.Statement.{statement}
+use Rattle.show.proofs.spread.Tie as tie
 
 abbrev Inv-loop : tie.InvT-loop
 Inv-loop words image₀ at₀ i₀ image at i = (at ≤ length image) × (length image ≡ length image₀)

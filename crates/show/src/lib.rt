@@ -1,0 +1,38 @@
+// What the programs share: an image written as words, and lines of text.
+
+use libc::STDOUT_FILENO;
+use storage::Offset;
+
+// The first word of a block is its magic and its size.
+pub const SUPERBLOCK: u64 = 0x53463031_00000000;
+
+pub const DIRECTORY: u64 = 0x53466465_00000000;
+
+pub const NAME: u64 = 0x53466e61_00000000;
+
+pub const FILE: u64 = 0x53467265_00000000;
+
+pub const FREE: u64 = 0x53466672_00000000;
+
+// The words from the front of the image on, as many as there is room for.
+pub fn spread(words: &[u64], image: &mut [u8]) {
+    let mut at: usize = 0;
+    let mut i: usize = 0;
+    while i < words.len() {
+        if image.len() - at < 8 {
+            return;
+        }
+        storage::write_u64(image, Offset(at), words[i]);
+        at += 8;
+        i += 1;
+    }
+}
+
+pub fn say(text: &[u8]) {
+    io::write_all(STDOUT_FILENO, text);
+}
+
+pub fn say_number(text: &[u8], n: u64) {
+    say(text);
+    io::print_decimal(STDOUT_FILENO, n);
+}
