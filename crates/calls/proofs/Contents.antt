@@ -12,7 +12,7 @@ use Rattle.storage.specs.Bytes.{u64At, splice, zeroed}
 use Rattle.storage.proofs.Numbers.{AllBytes}
 use Rattle.storage.proofs.Runs.{length-part, drop-take}
 use Rattle.storage.proofs.Splice.{splice-none}
-use Rattle.alloc.specs.Block.{Block, SFde, SFre, bytes, after, sizeAt, blockOf}
+use Rattle.alloc.specs.Block.{Block, SFde, SFre, after, sizeAt, blockOf}
 use Rattle.alloc.specs.Sound.{Standing}
 use Rattle.alloc.proofs.Cuts.{block-size}
 use Rattle.tree.specs.Fields.{isDir, isFile, total, slots, takenCount, fileSize, room, content}

@@ -13,12 +13,11 @@ use borrow.Author.Tests.{leb-true}
 use lib.ListN.{length, take, drop}
 use Rattle.storage.specs.Bytes.{zeroed}
 use Rattle.storage.proofs.Booleans.{and-true}
-use Rattle.alloc.specs.Block.{bytes}
 use Rattle.alloc.specs.Tiling.{within}
 use Rattle.path.specs.Path.{validPath}
 use Rattle.tree.specs.Fields.{isFile, content}
 use Rattle.tree.specs.Verdict.{wellFormed}
-use Rattle.calls.specs.Walk.{Start, start, at, refused, reached}
+use Rattle.calls.specs.Walk.{Start, start, refused, reached}
 use Rattle.calls.specs.Reading.{blockIn, Kind, kindOf, foundAt, find, copied, unread, readAt, read, Point, noPoint, pointOf, pointAt, readPoint, file}
 use Rattle.calls.specs.Answers.{startOf, numberOf, Reads, Copies, Points}
 

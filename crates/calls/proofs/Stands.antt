@@ -1,27 +1,31 @@
 -- An object of a well-formed image stands at its ref, as the layer below reads it.
 use Prim.Native.Nat.{ℕ, _<_}
 use mathlib.Core.List.{List}
-use mathlib.Core.Path.{_≡_, refl, ap, sym, _∙_, subst}
+use mathlib.Core.Path.{_≡_, refl, ap, sym, _∙_}
+use mathlib.Core.Logic.{_⊎_, inl, inr}
 use mathlib.Core.Bool.{Bool, true, false, _||_}
 use native.Mathlib.Omega.{arith}
-use lib.Dec.{eqb}
-use borrow.Author.Tests.{eqb-true, eqb-false, not-true, eq-eqb, ne-eqb}
+use borrow.Author.Tests.{eqb-true, eq-eqb, ne-eqb}
 use Rattle.storage.proofs.Booleans.{or-elim}
 use Rattle.storage.proofs.Numbers.{AllBytes}
-use Rattle.alloc.specs.Block.{Block, SFde, SFna, SFre, magicAt, blockOf}
+use Rattle.alloc.specs.Block.{Block, SFde, SFre, magicAt, blockOf}
 use Rattle.alloc.specs.Volume.{volumeOf, objects}
 use Rattle.alloc.proofs.Held.{StandsAt, object-stands}
 use Rattle.tree.specs.Answers.{DirectoryAt}
-use Rattle.tree.specs.Fields.{isDir, isName, isFile, total, slotAt, taken}
+use Rattle.tree.specs.Fields.{isDir, isFile, total, slotAt, taken}
 use Rattle.tree.specs.Verdict.{wellFormed}
-use Rattle.tree.proofs.Formed.{formed-tiled, formed-root, formed-slot}
-use Rattle.tree.proofs.Tests.{slot-taken}
+use Rattle.tree.proofs.Formed.{dir-there, name-there, file-there, Filled, formed-tiled, formed-root, formed-taken}
 use Rattle.calls.specs.Reading.{blockIn}
 use Rattle.calls.specs.Answers.{ObjectAt, DirectoryIn, FileIn}
 
--- a kind's magic is not 0
-some-magic : (n m : ℕ) → 0 < m → eqb n m ≡ true → 0 < n
-some-magic n m p e = subst (λ (x : ℕ). 0 < x) (sym (eqb-true n m e)) p
+-- a file or a directory
+either-kind : (b : Block) → (isFile b ≡ true) ⊎ (isDir b ≡ true) → (isFile b || isDir b) ≡ true
+either-kind b (inl e) = rw e
+either-kind b (inr e) = or-second (isFile b) (isDir b) e
+  where
+    or-second : (t q : Bool) → q ≡ true → (t || q) ≡ true
+    or-second true q e = refl
+    or-second false q e = e
 
 module _ {s : List ℕ} (h : AllBytes s) where
   -- any object
@@ -31,17 +35,17 @@ module _ {s : List ℕ} (h : AllBytes s) where
   pub directory-stands : {r : ℕ} → DirectoryIn s r → DirectoryAt s r × (blockOf s r ≡ blockIn s r)
   unfolding blockOf
   directory-stands {r} d =
-      let w = formed-stands r (d .formed) (some-magic (blockIn s r .magic) SFde (omega arith) (d .kind)) in
+      let w = formed-stands r (d .formed) (dir-there (blockIn s r) (d .kind)) in
       (record { standing = w .standing; magic = ap (λ (b : Block). b .magic) (w .block) ∙ eqb-true (blockIn s r .magic) SFde (d .kind) }, w .block)
 
   pub file-stands : {r : ℕ} → FileIn s r → StandsAt s r (blockIn s r) × (magicAt s r ≡ SFre)
   unfolding blockOf
   file-stands {r} f =
-      let w = formed-stands r (f .formed) (some-magic (blockIn s r .magic) SFre (omega arith) (f .kind)) in
+      let w = formed-stands r (f .formed) (file-there (blockIn s r) (f .kind)) in
       (w, ap (λ (b : Block). b .magic) (w .block) ∙ eqb-true (blockIn s r .magic) SFre (f .kind))
 
   pub object-at : {r : ℕ} → ObjectAt s r → StandsAt s r (blockIn s r)
-  object-at {r} o = formed-stands r (o .formed) (or-elim (isFile (blockIn s r)) (isDir (blockIn s r)) (o .kind) (some-magic (blockIn s r .magic) SFre (omega arith)) (some-magic (blockIn s r .magic) SFde (omega arith)))
+  object-at {r} o = formed-stands r (o .formed) (or-elim (isFile (blockIn s r)) (isDir (blockIn s r)) (o .kind) (file-there (blockIn s r)) (dir-there (blockIn s r)))
 
   -- by the magic that code reads
   module _ {r : ℕ} (o : ObjectAt s r) {m : ℕ} (q : m ≡ magicAt s r) where
@@ -71,24 +75,16 @@ module _ {s : List ℕ} (h : AllBytes s) where
 
   -- the root
   pub root-object : wellFormed s ≡ true → ObjectAt s (volumeOf s .root)
-  root-object e = record { formed = e; kind = second (isFile (blockIn s (volumeOf s .root))) (formed-root s h e) }
-    where
-      second : (t : Bool) → isDir (blockIn s (volumeOf s .root)) ≡ true → (t || isDir (blockIn s (volumeOf s .root))) ≡ true
-      second true e = refl
-      second false e = e
+  root-object e = record { formed = e; kind = either-kind (blockIn s (volumeOf s .root)) (inr (formed-root s h e)) }
 
   -- a taken slot: its name block stands, and its object is one
   module _ {r : ℕ} (d : DirectoryIn s r) (i : ℕ) (l : i < total (blockIn s r)) (t : taken (slotAt (blockIn s r) i) ≡ true) where
-    kinds : (isName (blockIn s (slotAt (blockIn s r) i .0)) ≡ true)
-        × ((isFile (blockIn s (slotAt (blockIn s r) i .1)) || isDir (blockIn s (slotAt (blockIn s r) i .1))) ≡ true)
-        × (slotAt (blockIn s r) i .0 ≡ 0 → ⊥)
-    kinds =
-        slot-taken (objects (volumeOf s)) (slotAt (blockIn s r) i) (formed-slot s h (d .formed) r (d .kind) i l)
-        (eqb-false (slotAt (blockIn s r) i .1) 0 (not-true (eqb (slotAt (blockIn s r) i .1) 0) t))
+    filled : Filled (objects (volumeOf s)) (slotAt (blockIn s r) i)
+    filled = formed-taken s h (d .formed) r (d .kind) i l t
 
     pub slot-name-stands : StandsAt s (slotAt (blockIn s r) i .0) (blockIn s (slotAt (blockIn s r) i .0))
     slot-name-stands =
-        formed-stands (slotAt (blockIn s r) i .0) (d .formed) (some-magic (blockIn s (slotAt (blockIn s r) i .0) .magic) SFna (omega arith) (kinds .0))
+        formed-stands (slotAt (blockIn s r) i .0) (d .formed) (name-there (blockIn s (slotAt (blockIn s r) i .0)) (filled .is-name))
 
     pub slot-object : ObjectAt s (slotAt (blockIn s r) i .1)
-    slot-object = record { formed = d .formed; kind = kinds .1 }
+    slot-object = record { formed = d .formed; kind = either-kind (blockIn s (slotAt (blockIn s r) i .1)) (filled .kind) }

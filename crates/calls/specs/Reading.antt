@@ -1,8 +1,8 @@
 -- The calls that change nothing, each as a function of the image and its arguments. A refusal has its number, and all else zero.
 use Prim.Native.Nat.{ℕ, _+_, _*_, _-_}
 use mathlib.Core.List.{List, [], _∷_}
-use mathlib.Core.Bool.{Bool, true, false, cond}
-use lib.Dec.{eqb, leb}
+use mathlib.Core.Bool.{true, cond}
+use lib.Dec.{leb}
 use lib.ListN.{length, take, drop}
 use Rattle.storage.specs.Bytes.{splice, zeroed}
 use Rattle.alloc.specs.Block.{Block}

@@ -4,7 +4,6 @@ use mathlib.Core.List.{List}
 use mathlib.Core.Path.{_≡_, ap, sym, _∙_}
 use mathlib.Core.Bool.{Bool, true, false}
 use mathlib.Core.Option.{Option, none, some}
-use Rattle.alloc.specs.Room.{place}
 use Rattle.alloc.specs.Sound.{Tiled}
 use Rattle.alloc.specs.Tiling.{tilingBreaker}
 use Rattle.alloc.specs.Volume.{volumeOf, Objects, objects, chained}

@@ -1,5 +1,5 @@
 -- The slots of a directory, one after the other: what is left from slot i on, and the loops over them.
-use Prim.Native.Nat.{ℕ, zero, suc, _+_, _*_, _-_, _/_, _%_, _<_, _≤_}
+use Prim.Native.Nat.{ℕ, suc, _+_, _*_, _-_, _/_, _%_, _<_, _≤_}
 use mathlib.Core.List.{List, [], _∷_}
 use mathlib.Core.Path.{_≡_, refl, ap, sym, _∙_, subst}
 use mathlib.Core.Bool.{Bool, true, false, _&&_, _||_, cond, not}
@@ -16,6 +16,7 @@ use Rattle.alloc.proofs.Cuts.{block-size}
 use Rattle.tree.specs.Fields.{isDir, Slot, total, slotAt, slotsFrom, slots, taken, takenCount}
 use Rattle.tree.specs.Rules.{slotStands, slotsStand, namings, nameIn, distinct}
 use Rattle.tree.specs.Answers.{DirectoryAt, equalNames}
+use Rattle.tree.proofs.Indexed.{every-slots, stand-every}
 
 -- ---- the fields of a directory that stands
 
@@ -211,16 +212,5 @@ module _ {os : Objects} {b : Block} {i j : ℕ} (w : ApartFrom os b i j) where
 
 -- ---- a slot of a directory that keeps rule 3
 
-kept-from : (os : Objects) (b : Block) (n i k : ℕ) → slotsStand os (slotsFrom b i n) ≡ true → k < n → slotStands os (slotAt b (i + k)) ≡ true
-unfolding slotsStand slotsFrom
-kept-from os b zero i k e h = absurd (omega arith)
-kept-from os b (suc n) i zero e h = ap (λ (m : ℕ). slotStands os (slotAt b m)) (add-zero i) ∙ and-true (slotStands os (slotAt b i)) _ e .0
-kept-from os b (suc n) i (suc k) e h =
-    let m : i + suc k ≡ i + 1 + k = omega arith in
-    ap (λ (x : ℕ). slotStands os (slotAt b x)) m ∙ kept-from os b n (i + 1) k (and-true (slotStands os (slotAt b i)) _ e .1) (omega arith)
-
 pub slot-kept : (os : Objects) (b : Block) → isDir b ≡ true → slotsStand os (slots b) ≡ true → (i : ℕ) → i < total b → slotStands os (slotAt b i) ≡ true
-unfolding slots
-slot-kept os b d e i h =
-    ap (λ (m : ℕ). slotStands os (slotAt b m)) (sym (zero-add i))
-    ∙ kept-from os b (total b) 0 i (sym (ap (λ (t : Bool). slotsStand os (cond t (slotsFrom b 0 (total b)) [])) d) ∙ e) h
+slot-kept os b d e = every-slots (λ x. slotStands os x ≡ true) b (stand-every os (slots b) e) d

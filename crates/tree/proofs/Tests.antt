@@ -7,7 +7,7 @@ use mathlib.Core.Option.{Option, none, some}
 use native.Mathlib.Omega.{arith}
 use native.Mathlib.Numerals.{add-one}
 use lib.Dec.{eqb, leb}
-use borrow.Author.Tests.{leb-true, eqb-true, eqb-false, le-leb, lt-leb, eq-eqb, ne-eqb}
+use borrow.Author.Tests.{leb-true, eqb-true, le-leb, lt-leb, eq-eqb, ne-eqb}
 use lib.ListN.{length}
 use Rattle.storage.specs.Bytes.{u64At, same}
 use Rattle.storage.proofs.Booleans.{and-true, and-false, and-unit, or-elim}
@@ -21,6 +21,8 @@ use Rattle.path.specs.Name.{validName}
 use Rattle.tree.specs.Fields.{isDir, isName, isFile, parent, Slot, total, slotAt, slotsFrom, slots, taken, takenCount}
 use Rattle.tree.specs.Rules.{rootStands, slotStands, namings, allNamings, namedOnce, climb, depthAllowed, distinct, namesStand, fileStands}
 use Rattle.tree.specs.Answers.{DirectoryAt, SoundDirectory, equalNames}
+use Rattle.tree.proofs.BlockRules.{slot-means}
+use Rattle.tree.proofs.Formed.{name-there, slot-filled}
 use Rattle.tree.proofs.Rows.{directory-is, no-slots, left, counted, naming, namings-counted, slot-kept}
 use Rattle.tree.proofs.Visits.{summed}
 
@@ -231,29 +233,15 @@ module _ (os : Objects) (root r : ℕ) (b : Block) where
 
 -- ---- rule 6
 
--- a taken slot that stands names a name block, and a file or directory
-pub slot-taken : (os : Objects) (x : Slot) → slotStands os x ≡ true → (x .1 ≡ 0 → ⊥)
-    → (isName (blockAt os (x .0)) ≡ true) × ((isFile (blockAt os (x .1)) || isDir (blockAt os (x .1))) ≡ true) × (x .0 ≡ 0 → ⊥)
-slot-taken os x e n =
-    let f = go (eqb (x .0) 0) (isName (blockAt os (x .0))) (isFile (blockAt os (x .1)) || isDir (blockAt os (x .1)))
-    (subst (λ (t : Bool). ((eqb (x .0) 0 && t) || (not (eqb (x .0) 0) && (not t && (isName (blockAt os (x .0)) && (isFile (blockAt os (x .1)) || isDir (blockAt os (x .1))))))) ≡ true)
-    (ne-eqb (x .1) 0 n) e) in
-    (f .1, f .2, eqb-false (x .0) 0 (f .0))
-  where
-    go : (a b c : Bool) → ((a && false) || (not a && (true && (b && c)))) ≡ true → (a ≡ false) × (b ≡ true) × (c ≡ true)
-    go false true true e = (refl, refl, refl)
-    go false true false e = let z : _≡_ {A = ℕ} 0 1 = cc in absurd (omega arith)
-    go false false c e = let z : _≡_ {A = ℕ} 0 1 = cc in absurd (omega arith)
-    go true b c e = let z : _≡_ {A = ℕ} 0 1 = cc in absurd (omega arith)
-
--- and its name block stands
+-- the name block of a taken slot stands
 pub slot-name : {s : List ℕ} {r : ℕ} (w : SoundDirectory s r) (i : ℕ) → i < total (blockOf s r) → (slotAt (blockOf s r) i .1 ≡ 0 → ⊥)
     → StandsAt s (slotAt (blockOf s r) i .0) (blockAt (objects (volumeOf s)) (slotAt (blockOf s r) i .0))
 slot-name {s} {r} w i h n =
     let os : Objects = objects (volumeOf s) in
     let x : Slot = slotAt (blockOf s r) i in
-    let m = slot-taken os x (slot-kept os (blockOf s r) (directory-is (w .directory)) (w .slots-stand) i h) n .0 in
-    object-stands (w .tiled) (subst (λ (y : ℕ). 0 < y) (sym (eqb-true (blockAt os (x .0) .magic) SFna m)) (omega arith))
+    let t : taken x ≡ true = rw (ne-eqb (x .1) 0 n) in
+    let f = slot-filled os x (slot-means os x (slot-kept os (blockOf s r) (directory-is (w .directory)) (w .slots-stand) i h)) t in
+    object-stands (w .tiled) (name-there (blockAt os (x .0)) (f .is-name))
 
 module _ {s : List ℕ} {r : ℕ} (w : SoundDirectory s r) {i j : ℕ} (hi : i < total (blockOf s r)) (hj : j < total (blockOf s r)) where
   abbrev os : Objects

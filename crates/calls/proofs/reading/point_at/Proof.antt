@@ -1,5 +1,5 @@
 -- point_at: the whole point within the file size, or 13.
-use mathlib.Core.Path.{sym, ap, _∙_}
+use mathlib.Core.Path.{ap, _∙_}
 use Rattle.calls.specs.Reading.{Point}
 use Rattle.calls.proofs.Contents.{file-standing, file-numbers, point-none, point-inside, point-some}
 use borrow.Author.Needs.{needs}

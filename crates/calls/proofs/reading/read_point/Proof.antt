@@ -1,5 +1,5 @@
 -- read_point: by how it begins.
-use mathlib.Core.Path.{refl, sym, ap, _∙_}
+use mathlib.Core.Path.{sym, ap, _∙_}
 use Rattle.calls.specs.Answers.{startOf}
 use Rattle.calls.proofs.Stands.{object-at, object-file, no-file}
 use Rattle.calls.proofs.Steps.{start-object}

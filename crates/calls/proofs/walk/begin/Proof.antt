@@ -1,5 +1,4 @@
 -- begin: 1, 2, 10, then the walk.
-use Prim.Native.Nat.{ℕ}
 use mathlib.Core.Path.{sym, ap, _∙_}
 use borrow.Author.Tests.{not-true, not-false}
 use Rattle.tree.specs.Verdict.{Verdict}

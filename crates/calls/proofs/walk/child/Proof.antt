@@ -1,6 +1,6 @@
 -- child: the slots passed have other names, so the rest decides.
-use Prim.Native.Nat.{ℕ, _-_}
-use mathlib.Core.Path.{sym, ap, _∙_}
+use Prim.Native.Nat.{_-_}
+use mathlib.Core.Path.{ap, _∙_}
 use Rattle.alloc.specs.Block.{Block}
 use Rattle.tree.specs.Fields.{total, slotAt}
 use Rattle.calls.proofs.Stands.{directory-stands}

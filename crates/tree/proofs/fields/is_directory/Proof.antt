@@ -2,7 +2,7 @@
 use mathlib.Core.Path.{sym, ap}
 use mathlib.Core.Bool.{_||_}
 use lib.Dec.{eqb}
-use Rattle.alloc.specs.Block.{SFde, SFna, SFre}
+use Rattle.alloc.specs.Block.{SFde}
 use Rattle.alloc.specs.Answers.{kindMagic}
 use Rattle.alloc.specs.declared.objects.Kind.{Kind}
 use borrow.Author.Needs.{needs}

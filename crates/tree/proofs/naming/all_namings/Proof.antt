@@ -2,7 +2,7 @@
 use Prim.Native.Nat.{_-_}
 use mathlib.Core.Path.{sym, refl, _∙_}
 use lib.ListN.{length}
-use Rattle.alloc.proofs.Cuts.{cut-fits, cut-standing, tiled-long}
+use Rattle.alloc.proofs.Cuts.{cut-fits, cut-standing}
 use Rattle.tree.specs.Fields.{slots}
 use Rattle.tree.specs.Rules.{namings}
 use Rattle.tree.proofs.Visits.{Sums, sums-start, sums-on, sums-end}

@@ -1,7 +1,5 @@
 -- keeps: the count, and for a directory its parent's slots.
-use mathlib.Core.Path.{sym, ap, _∙_}
-use borrow.Author.Tests.{eq-eqb, ne-eqb}
-use Rattle.alloc.specs.Block.{blockOf}
+use mathlib.Core.Path.{sym, _∙_}
 use Rattle.tree.proofs.Tests.{named-root, named-otherwise, named-leaf, named-directory, block-directory, block-other}
 use Rattle.tree.proofs.naming.keeps.Statement.{statement}
 use Rattle.tree.proofs.naming.keeps.Tie as tie

@@ -1,5 +1,5 @@
 -- stands: empty, half taken, or by the kinds that its refs name.
-use mathlib.Core.Path.{sym, ap, _∙_}
+use mathlib.Core.Path.{sym, _∙_}
 use borrow.Author.Tests.{not-true, not-false}
 use Rattle.tree.proofs.Tests.{slot-unnamed, slot-half, slot-nameless, slot-full}
 use Rattle.alloc.specs.Volume.{volumeOf, objects}

@@ -1,7 +1,6 @@
 -- judge: rule 1, then the others.
 use mathlib.Core.Path.{sym, ap, _∙_}
 use Rattle.alloc.specs.Answers.{breaker}
-use Rattle.tree.specs.Verdict.{verdict}
 use Rattle.tree.proofs.Judging.{judged-tiling, judged-after}
 use borrow.Author.Needs.{needs}
 use Rattle.tree.proofs.verdict.judge.Statement.{statement}

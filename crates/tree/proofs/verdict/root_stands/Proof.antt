@@ -1,6 +1,5 @@
 -- root_stands: a directory, and its parent.
-use Prim.Native.Nat.{ℕ}
-use mathlib.Core.Path.{sym, ap, _∙_}
+use mathlib.Core.Path.{sym, _∙_}
 use borrow.Author.Tests.{not-true, not-false}
 use Rattle.tree.proofs.Tests.{kind-directory, root-other, root-directory}
 use borrow.Author.Needs.{needs}
