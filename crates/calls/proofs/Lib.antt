@@ -1,4 +1,5 @@
 pub mod Stands
+pub mod Lowest
 pub mod Steps
 pub mod Contents
 pub mod Outcomes

@@ -1,25 +1,24 @@
 -- The calls that change nothing, by how they begin.
-use denote.Enum.Declared.{tagOf}
 use Rattle.calls.proofs.walk.Start as declared
 use Rattle.calls.specs.declared.walk.Start as declared-start
 use Rattle.calls.specs.declared.walk.Start.the-variants.{Refused, Reached}
-use Prim.Native.Nat.{ℕ, _<_}
+use denote.Enum.Declared.{tagOf}
+use Prim.Native.Nat.{_<_, ℕ}
+use mathlib.Core.Bool.{Bool, cond, false, true}
 use mathlib.Core.List.{List}
-use mathlib.Core.Path.{_≡_, refl, ap, sym, _∙_, subst}
-use mathlib.Core.Bool.{Bool, true, false, cond}
+use mathlib.Core.Path.{_∙_, _≡_, ap, refl, subst, sym}
 use native.Mathlib.Omega.{arith}
 use lib.Dec.{leb}
+use lib.ListN.{drop, length, take}
 use borrow.Author.Tests.{leb-true}
-use lib.ListN.{length, take, drop}
 use Rattle.storage.specs.Bytes.{zeroed}
 use Rattle.storage.proofs.Booleans.{and-true}
 use Rattle.alloc.specs.Tiling.{within}
-use Rattle.path.specs.Path.{validPath}
-use Rattle.tree.specs.Fields.{isFile, content}
-use Rattle.tree.specs.Verdict.{wellFormed}
-use Rattle.calls.specs.Walk.{Start, start, refused, reached}
-use Rattle.calls.specs.Reading.{blockIn, Kind, kindOf, foundAt, find, copied, unread, readAt, read, Point, noPoint, pointOf, pointAt, readPoint, file}
-use Rattle.calls.specs.Answers.{startOf, numberOf, Reads, Copies, Points}
+use Rattle.tree.specs.Fields.{content, isFile}
+use Rattle.calls.specs.Answers.{Copies, Points, Reads, numberOf, startOf}
+use Rattle.calls.specs.Reading.{Kind, Point, blockIn, copied, file, find, foundAt, kindOf, noPoint, pointAt, pointOf, read, readAt, readPoint, unread}
+use Rattle.calls.specs.Walk.{Start, opening, reached, refused, start}
+use Rattle.calls.proofs.Steps.{opened, reached-opened}
 
 -- a beginning that reaches nothing is the refusal that it numbers
 pub refused-so : (x : Start) {y : Start} → x ≡ y → ((r : ℕ) → x ≡ reached r → ⊥) → (n : ℕ) → n ≡ numberOf x → refused n ≡ y
@@ -80,15 +79,7 @@ module _ (s path : List ℕ) where
 -- what is reached has allowed numbers
 reached-allowed : (s path : List ℕ) (t : Bool) (r : ℕ) → reached r ≡ start s path t → t ≡ true
 unfolding start
-reached-allowed s path true r e = refl
-reached-allowed s path false r e = go (wellFormed s) (validPath path) e
-  where
-    go : (a b : Bool)
-        → reached r ≡ elim a as (λ _. Start) [ false ↦ refused 1 | true ↦ elim b as (λ _. Start) [ false ↦ refused 2 | true ↦ refused 10 ] ]
-        → _≡_ {A = Bool} false true
-    go false b e = let z : _≡_ {A = ℕ} 0 1 = cc in absurd (omega arith)
-    go true false e = let z : _≡_ {A = ℕ} 0 1 = cc in absurd (omega arith)
-    go true true e = let z : _≡_ {A = ℕ} 0 1 = cc in absurd (omega arith)
+reached-allowed s path t r e = opened s path t (reached-opened (opening s path t) _ r e .0) .2
 
 -- so a point's number is within its bounds
 pub reached-number : (s path : List ℕ) (n r : ℕ) → reached r ≡ start s path (within 1 4096 n) → (0 < n) × (n < 4097)

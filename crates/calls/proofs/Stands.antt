@@ -1,22 +1,22 @@
 -- An object of a well-formed image stands at its ref, as the layer below reads it.
-use Prim.Native.Nat.{ℕ, _<_}
+use Prim.Native.Nat.{_<_, ℕ}
+use mathlib.Core.Bool.{Bool, _||_, false, true}
 use mathlib.Core.List.{List}
-use mathlib.Core.Path.{_≡_, refl, ap, sym, _∙_}
 use mathlib.Core.Logic.{_⊎_, inl, inr}
-use mathlib.Core.Bool.{Bool, true, false, _||_}
+use mathlib.Core.Path.{_∙_, _≡_, ap, refl, subst, sym}
 use native.Mathlib.Omega.{arith}
-use borrow.Author.Tests.{eqb-true, eq-eqb, ne-eqb}
+use borrow.Author.Tests.{eq-eqb, eqb-true, ne-eqb}
 use Rattle.storage.proofs.Booleans.{or-elim}
 use Rattle.storage.proofs.Numbers.{AllBytes}
-use Rattle.alloc.specs.Block.{Block, SFde, SFre, magicAt, blockOf}
-use Rattle.alloc.specs.Volume.{volumeOf, objects}
+use Rattle.alloc.specs.Block.{Block, SFde, SFre, blockOf, magicAt}
+use Rattle.alloc.specs.Volume.{objects, volumeOf}
 use Rattle.alloc.proofs.Held.{StandsAt, object-stands}
 use Rattle.tree.specs.Answers.{DirectoryAt}
-use Rattle.tree.specs.Fields.{isDir, isFile, total, slotAt, taken}
+use Rattle.tree.specs.Fields.{Slot, isDir, isFile, slotAt, taken, total}
 use Rattle.tree.specs.Verdict.{wellFormed}
-use Rattle.tree.proofs.Formed.{dir-there, name-there, file-there, Filled, formed-tiled, formed-root, formed-taken}
+use Rattle.tree.proofs.Formed.{Filled, dir-there, file-there, formed-root, formed-taken, formed-tiled, name-there}
+use Rattle.calls.specs.Answers.{DirectoryIn, FileIn, ObjectAt}
 use Rattle.calls.specs.Reading.{blockIn}
-use Rattle.calls.specs.Answers.{ObjectAt, DirectoryIn, FileIn}
 
 -- a file or a directory
 either-kind : (b : Block) → (isFile b ≡ true) ⊎ (isDir b ≡ true) → (isFile b || isDir b) ≡ true
@@ -76,6 +76,14 @@ module _ {s : List ℕ} (h : AllBytes s) where
   -- the root
   pub root-object : wellFormed s ≡ true → ObjectAt s (volumeOf s .root)
   root-object e = record { formed = e; kind = either-kind (blockIn s (volumeOf s .root)) (inr (formed-root s h e)) }
+
+  -- the slots of a directory, as they are read
+  module _ {r : ℕ} (d : DirectoryIn s r) (i : ℕ) where
+    pub slot-read : {x : Slot} → x ≡ slotAt (blockOf s r) i → x ≡ slotAt (blockIn s r) i
+    slot-read e = e ∙ ap (λ (b : Block). slotAt b i) (directory-stands d .1)
+
+    pub slot-here : i < total (blockIn s r) → i < total (blockOf s r)
+    slot-here l = subst (λ (b : Block). i < total b) (sym (directory-stands d .1)) l
 
   -- a taken slot: its name block stands, and its object is one
   module _ {r : ℕ} (d : DirectoryIn s r) (i : ℕ) (l : i < total (blockIn s r)) (t : taken (slotAt (blockIn s r) i) ≡ true) where

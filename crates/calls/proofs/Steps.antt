@@ -1,36 +1,36 @@
 -- The walk: one slot, one step, and the loop along the components.
-use Prim.Native.Nat.{ℕ, zero, suc, _+_, _-_, _<_, _≤_}
+use Prim.Native.Nat.{_+_, _-_, _<_, _≤_, suc, zero, ℕ}
+use mathlib.Core.Bool.{Bool, _&&_, cond, false, true}
 use mathlib.Core.List.{List, [], _∷_}
-use mathlib.Core.Path.{_≡_, refl, ap, sym, _∙_, subst}
-use mathlib.Core.Bool.{Bool, true, false, _&&_}
-use native.Mathlib.Omega.{arith}
+use mathlib.Core.Option.{Option, none, some}
+use mathlib.Core.Path.{_∙_, _≡_, ap, refl, subst, sym}
 use native.Mathlib.Numerals.{add-one}
-use native.Mathlib.Nat.{add-zero}
+use native.Mathlib.Omega.{arith}
 use lib.Dec.{eqb}
-use borrow.Author.Tests.{eqb-false, not-true, eq-eqb, ne-eqb}
-use lib.ListN.{length, getD, drop, drop-of-length-le}
+use lib.ListN.{drop, drop-of-length-le, getD, length}
 use lib.Seq.{drop-cons}
+use borrow.Author.Tests.{eq-eqb, ne-eqb}
 use Rattle.storage.specs.Bytes.{same}
 use Rattle.storage.proofs.Booleans.{and-true}
 use Rattle.storage.proofs.Numbers.{AllBytes}
+use Rattle.path.specs.Path.{allButLast, components, directoryOf, validPath}
+use Rattle.path.proofs.Paths.{directory-components}
 use Rattle.alloc.specs.Block.{Block, blockOf}
 use Rattle.alloc.specs.Sound.{Standing}
-use Rattle.alloc.specs.Volume.{volumeOf, Objects, objects, blockAt}
-use Rattle.path.specs.Name.{allowed}
-use Rattle.path.specs.Path.{components, validPath}
-use Rattle.tree.specs.Fields.{isDir, Slot, total, slotAt, slotsFrom, slots, taken}
+use Rattle.alloc.specs.Volume.{Objects, blockAt, objects, volumeOf}
+use Rattle.tree.specs.Fields.{Slot, isDir, slotAt, taken, total}
 use Rattle.tree.specs.Verdict.{verdict, wellFormed}
-use Rattle.tree.proofs.Rows.{left, left-start, left-step, left-end}
-use Rattle.calls.specs.Walk.{childNamed, Walk, child, step, walk, Start, walked, start, missing, blocked, at, refused, reached}
+use Rattle.calls.specs.Answers.{DirectoryIn, ObjectAt, named, numberOf, refusalOf}
 use Rattle.calls.specs.Reading.{blockIn}
-use Rattle.calls.specs.Answers.{ObjectAt, DirectoryIn, named, refusalOf}
-use Rattle.calls.proofs.Stands.{directory-stands, root-object, slot-name-stands, slot-object}
+use Rattle.calls.specs.Walk.{Start, Walk, aboveLast, asDirectory, at, blocked, child, lastName, missing, opening, orRefused, reached, refused, slotNamed, start, startAbove, step, walk, walkFrom, walked}
+use Rattle.calls.proofs.Lowest.{found-slot}
+use Rattle.calls.proofs.Stands.{root-object, slot-name-stands, slot-object, slot-read}
 
 -- ---- one slot
 
 module _ {s : List ℕ} (h : AllBytes s) {r : ℕ} (d : DirectoryIn s r) {i : ℕ} (l : i < total (blockIn s r)) {x : Slot} (e : x ≡ slotAt (blockOf s r) i) where
   slot-is : x ≡ slotAt (blockIn s r) i
-  slot-is = e ∙ ap (λ (b : Block). slotAt b i) (directory-stands h d .1)
+  slot-is = slot-read h d i e
 
   pub named-empty : (w : List ℕ) → x .1 ≡ 0 → false ≡ named s r i w
   named-empty w q = sym (rw (eq-eqb (slotAt (blockIn s r) i .1) 0 (ap (λ (y : Slot). y .1) (sym slot-is) ∙ q)))
@@ -54,83 +54,26 @@ pub step-blocked : (os : Objects) (r : ℕ) (w : List ℕ) → isDir (blockAt os
 unfolding step
 step-blocked os r w e = sym (rw (e, step))
 
--- ---- the loop over the slots
-
-abbrev pub childFrom : List ℕ → ℕ → ℕ → List ℕ → ℕ
-childFrom s r i w = childNamed (objects (volumeOf s)) (left (blockIn s r) i) w
-
-pub record Seeking (s : List ℕ) (r i : ℕ) (w : List ℕ) : Type 0 where
-  pub so-far : step (objects (volumeOf s)) r w ≡ child (childFrom s r i w)
-
-pub seeking-start : {s : List ℕ} {r : ℕ} (w : List ℕ) → DirectoryIn s r → Seeking s r 0 w
-unfolding step
-seeking-start {s} {r} w d = record {
-  so-far = rw (d .kind, step) (ap (λ (ss : List Slot). child (childNamed (objects (volumeOf s)) ss w)) (left-start (blockIn s r) (d .kind)));
-}
-
-module _ {s : List ℕ} {r i : ℕ} {w : List ℕ} (k : Seeking s r i w) where
-  here : (t : Bool) → i < total (blockIn s r) → t ≡ named s r i w
-      → step (objects (volumeOf s)) r w ≡ child (elim t [ true ↦ slotAt (blockIn s r) i .1 | false ↦ childFrom s r (i + 1) w ])
-  unfolding childNamed
-  here t l e =
-      k .so-far
-      ∙ ap (λ (ss : List Slot). child (childNamed (objects (volumeOf s)) ss w)) (left-step (blockIn s r) i l)
-      ∙ ap (λ (q : Bool). child (elim q as (λ _. ℕ) [ true ↦ slotAt (blockIn s r) i .1 | false ↦ childFrom s r (i + 1) w ])) (sym e)
-
-  pub seeking-on : i < total (blockIn s r) → (t : Bool) → t ≡ named s r i w → t ≡ false → Seeking s r (i + 1) w
-  seeking-on l t e f = record { so-far = here false l (sym f ∙ e) }
-
-  pub seeking-end : total (blockIn s r) ≤ i → missing ≡ step (objects (volumeOf s)) r w
-  unfolding childNamed
-  seeking-end l = sym (k .so-far ∙ ap (λ (ss : List Slot). child (childNamed (objects (volumeOf s)) ss w)) (left-end (blockIn s r) i l))
-
-  pub seeking-here : i < total (blockIn s r) → (t : Bool) → t ≡ named s r i w → t ≡ true → (x : Slot) → x ≡ slotAt (blockIn s r) i
-      → at (x .1) ≡ step (objects (volumeOf s)) r w
-  seeking-here l t e f x q =
-      ap (λ (y : Slot). at (y .1)) q ∙ positive (slotAt (blockIn s r) i .1) taken-it ∙ sym (here true l (sym f ∙ e))
-    where
-      taken-it : slotAt (blockIn s r) i .1 ≡ 0 → ⊥
-      taken-it = eqb-false (slotAt (blockIn s r) i .1) 0 (not-true (eqb (slotAt (blockIn s r) i .1) 0) (and-true (taken (slotAt (blockIn s r) i)) _ (sym e ∙ f) .0))
-
-      positive : (n : ℕ) → (n ≡ 0 → ⊥) → at n ≡ child n
-      positive zero z = absurd (z refl)
-      positive (suc n) z = refl
+module _ (os : Objects) (r : ℕ) (d : isDir (blockAt os r) ≡ true) (w : List ℕ) where
+  pub step-found : (o : Option ℕ) → o ≡ slotNamed os (blockAt os r) w → child (blockAt os r) o ≡ step os r w
+  unfolding step
+  step-found o e = sym (rw (d, step) (ap (child (blockAt os r)) (sym e)))
 
 -- ---- what a step reaches is an object
-
-child-index : (os : Objects) (b : Block) (w : List ℕ) (q n i : ℕ) {C : Type 0} → childNamed os (slotsFrom b i n) w ≡ suc q
-    → ((k : ℕ) → k < n → taken (slotAt b (i + k)) ≡ true → slotAt b (i + k) .1 ≡ suc q → C) → C
-unfolding childNamed slotsFrom
-child-index os b w q zero i e f = absurd (omega arith)
-child-index os b w q (suc n) i {C} e f =
-    go (taken (slotAt b i) && same (blockAt os (slotAt b i .0) .body) w) refl e
-    (λ e. child-index os b w q n (i + 1) e
-    (λ k l t g.
-    let m : i + 1 + k ≡ i + suc k = omega arith in
-    f (suc k) (omega arith) (subst (λ (x : ℕ). taken (slotAt b x) ≡ true) m t) (subst (λ (x : ℕ). slotAt b x .1 ≡ suc q) m g)))
-  where
-    go : (t : Bool) → (taken (slotAt b i) && same (blockAt os (slotAt b i .0) .body) w) ≡ t
-        → _≡_ {A = ℕ} (elim t [ true ↦ slotAt b i .1 | false ↦ childNamed os (slotsFrom b (i + 1) n) w ]) (suc q)
-        → (childNamed os (slotsFrom b (i + 1) n) w ≡ suc q → C) → C
-    go true p e k =
-        let m : i ≡ i + 0 = sym (add-zero i) in
-        f 0 (omega arith) (subst (λ (x : ℕ). taken (slotAt b x) ≡ true) m (and-true (taken (slotAt b i)) _ p .0)) (subst (λ (x : ℕ). slotAt b x .1 ≡ suc q) m e)
-    go false p e k = k e
 
 pub step-object : {s : List ℕ} → AllBytes s → (r : ℕ) → wellFormed s ≡ true → (w : List ℕ) (q : ℕ) → at q ≡ step (objects (volumeOf s)) r w → ObjectAt s q
 unfolding step
 step-object {s} h r e w q f = go (isDir (blockIn s r)) refl f
   where
-    reached-child : (d : DirectoryIn s r) (n : ℕ) → childNamed (objects (volumeOf s)) (slots (blockIn s r)) w ≡ n → at q ≡ child n → ObjectAt s q
-    reached-child d zero g k = let z : _≡_ {A = ℕ} 0 1 = cc in absurd (omega arith)
-    reached-child d (suc n) g k =
-        let m : suc n ≡ q = cc in
-        child-index (objects (volumeOf s)) (blockIn s r) w n (total (blockIn s r) - 0) 0
-        (ap (λ (ss : List Slot). childNamed (objects (volumeOf s)) ss w) (sym (left-start (blockIn s r) (d .kind))) ∙ g)
-        (λ j l t x. subst (ObjectAt s) (x ∙ m) (slot-object h d (0 + j) (omega arith) t))
+    reached-child : (d : DirectoryIn s r) (o : Option ℕ) → slotNamed (objects (volumeOf s)) (blockIn s r) w ≡ o → at q ≡ child (blockIn s r) o → ObjectAt s q
+    reached-child d none g k = let z : _≡_ {A = ℕ} 0 1 = cc in absurd (omega arith)
+    reached-child d (some i) g k =
+        let m : slotAt (blockIn s r) i .1 ≡ q = cc in
+        let x = found-slot _ (blockIn s r) i g in
+        subst (ObjectAt s) m (slot-object h d i (x .0) (and-true (taken (slotAt (blockIn s r) i)) _ (x .1) .0))
 
-    go : (t : Bool) → isDir (blockIn s r) ≡ t → at q ≡ elim t [ false ↦ blocked | true ↦ child (childNamed (objects (volumeOf s)) (slots (blockIn s r)) w) ] → ObjectAt s q
-    go true d f = reached-child (record { formed = e; kind = d }) (childNamed (objects (volumeOf s)) (slots (blockIn s r)) w) refl f
+    go : (t : Bool) → isDir (blockIn s r) ≡ t → at q ≡ elim t [ false ↦ blocked | true ↦ child (blockIn s r) (slotNamed (objects (volumeOf s)) (blockIn s r) w) ] → ObjectAt s q
+    go true d f = reached-child (record { formed = e; kind = d }) (slotNamed (objects (volumeOf s)) (blockIn s r) w) refl f
     go false d f = let z : _≡_ {A = ℕ} 0 1 = cc in absurd (omega arith)
 
 -- ---- the loop along the components
@@ -182,33 +125,58 @@ module _ (s : List ℕ) where
   pub formed-not : (n : ℕ) → n ≡ verdict s .rule → (n ≡ 0 → ⊥) → wellFormed s ≡ false
   formed-not n e z = formed-is n e false (ne-eqb n 0 z)
 
+-- what is looked for first
 module _ (s path : List ℕ) (allowed : Bool) where
-  pub start-broken : wellFormed s ≡ false → refused 1 ≡ start s path allowed
-  unfolding start
-  start-broken e = sym (rw (e, start))
+  pub opening-broken : wellFormed s ≡ false → 1 ≡ opening s path allowed
+  unfolding opening
+  opening-broken e = sym (rw (e, opening))
 
   module _ (e : wellFormed s ≡ true) where
-    pub start-path : validPath path ≡ false → refused 2 ≡ start s path allowed
-    unfolding start
-    start-path f = sym (rw (e, start) (rw f))
+    pub opening-path : validPath path ≡ false → 2 ≡ opening s path allowed
+    unfolding opening
+    opening-path f = sym (rw (e, f, opening))
 
     module _ (f : validPath path ≡ true) where
-      pub start-bounds : allowed ≡ false → refused 10 ≡ start s path allowed
-      unfolding start
-      start-bounds g = sym (rw (e, start) (rw f (rw g)))
+      pub opening-bounds : allowed ≡ false → 10 ≡ opening s path allowed
+      unfolding opening
+      opening-bounds g = sym (rw (e, f, g, opening))
 
-      pub start-walk : allowed ≡ true → walked (walk (objects (volumeOf s)) (volumeOf s .root) (components path)) ≡ start s path allowed
-      unfolding start
-      start-walk g = sym (rw (e, start) (rw f (rw g)))
+      pub opening-none : allowed ≡ true → 0 ≡ opening s path allowed
+      unfolding opening
+      opening-none g = sym (rw (e, f, g, opening))
 
--- a ref that was reached is an object
-pub start-object : {s : List ℕ} → AllBytes s → (path : List ℕ) (allowed : Bool) (r : ℕ) → reached r ≡ start s path allowed → ObjectAt s r
-unfolding start walk
-start-object {s} h path allowed r f = formed-first (wellFormed s) refl f
+  pub opened : opening s path allowed ≡ 0 → (wellFormed s ≡ true) × (validPath path ≡ true) × (allowed ≡ true)
+  unfolding opening
+  opened e = go (wellFormed s) (validPath path) allowed refl refl refl e
+    where
+      go : (a b c : Bool) → wellFormed s ≡ a → validPath path ≡ b → allowed ≡ c → _≡_ {A = ℕ} (cond a (cond b (cond c 0 10) 2) 1) 0
+          → (wellFormed s ≡ true) × (validPath path ≡ true) × (allowed ≡ true)
+      go true true true x y z e = (x, y, z)
+      go true true false x y z e = absurd (omega arith)
+      go true false c x y z e = absurd (omega arith)
+      go false b c x y z e = absurd (omega arith)
+
+pub or-refused : {n : ℕ} (m : ℕ) (x : Start) → n ≡ m → (n ≡ 0 → ⊥) → refused n ≡ orRefused m x
+or-refused zero x e z = absurd (z e)
+or-refused (suc m) x e z = ap refused e
+
+pub or-passed : {n : ℕ} (m : ℕ) (x : Start) → n ≡ m → n ≡ 0 → x ≡ orRefused m x
+or-passed zero x e z = refl
+or-passed (suc m) x e z = absurd (omega arith)
+
+-- what reaches a ref was not refused first
+pub reached-opened : (m : ℕ) (x : Start) (r : ℕ) → reached r ≡ orRefused m x → (m ≡ 0) × (reached r ≡ x)
+reached-opened zero x r e = (refl, e)
+reached-opened (suc m) x r e = let z : _≡_ {A = ℕ} 0 1 = cc in absurd (omega arith)
+
+-- a ref that a walk reaches is an object
+pub walked-object : {s : List ℕ} → AllBytes s → wellFormed s ≡ true → (ws : List (List ℕ)) (r : ℕ) → reached r ≡ walkFrom s ws → ObjectAt s r
+unfolding walk
+walked-object {s} h e ws r f = along ws (volumeOf s .root) (root-object h e) f
   where
-    along : wellFormed s ≡ true → (ws : List (List ℕ)) (q : ℕ) → ObjectAt s q → reached r ≡ walked (walk (objects (volumeOf s)) q ws) → ObjectAt s r
-    along e [] q o g = let m : q ≡ r = cc in subst (ObjectAt s) m o
-    along e (w ∷ ws) q o g = by-step (step (objects (volumeOf s)) q w) refl g (along e ws)
+    along : (ws : List (List ℕ)) (q : ℕ) → ObjectAt s q → reached r ≡ walked (walk (objects (volumeOf s)) q ws) → ObjectAt s r
+    along [] q o g = let m : q ≡ r = cc in subst (ObjectAt s) m o
+    along (w ∷ ws) q o g = by-step (step (objects (volumeOf s)) q w) refl g (along ws)
       where
         by-step : (x : Walk) → step (objects (volumeOf s)) q w ≡ x
             → reached r ≡ walked (elim x as (λ _. Walk) [ missing ↦ missing | blocked ↦ blocked | at p ↦ walk (objects (volumeOf s)) p ws ])
@@ -217,15 +185,88 @@ start-object {s} h path allowed r f = formed-first (wellFormed s) refl f
         by-step blocked d g k = let z : _≡_ {A = ℕ} 0 1 = cc in absurd (omega arith)
         by-step (at p) d g k = k p (step-object h q e w p (sym d)) g
 
-    formed-first : (t : Bool) → wellFormed s ≡ t
-        → reached r ≡ elim t as (λ _. Start) [ false ↦ refused 1 | true ↦ elim (validPath path) [ false ↦ refused 2 | true ↦ elim allowed [ false ↦ refused 10 | true ↦ walked (walk (objects (volumeOf s)) (volumeOf s .root) (components path)) ] ] ]
-        → ObjectAt s r
-    formed-first false e g = let z : _≡_ {A = ℕ} 0 1 = cc in absurd (omega arith)
-    formed-first true e g = path-next (validPath path) allowed g
+pub start-object : {s : List ℕ} → AllBytes s → (path : List ℕ) (allowed : Bool) (r : ℕ) → reached r ≡ start s path allowed → ObjectAt s r
+unfolding start
+start-object {s} h path allowed r f =
+    let x = reached-opened (opening s path allowed) _ r f in
+    walked-object h (opened s path allowed (x .0) .0) (components path) r (x .1)
+
+-- ---- the directory above the last component
+
+module _ (s path : List ℕ) (allowed : Bool) (top : ℕ) {n : ℕ} (o : n ≡ opening s path allowed) where
+  pub above-first : (n ≡ 0 → ⊥) → refused n ≡ startAbove s path allowed top
+  unfolding startAbove
+  above-first z = or-refused (opening s path allowed) (aboveLast s top (components path)) o z
+
+  module _ (z : n ≡ 0) where
+    passed : {x : Start} → x ≡ aboveLast s top (components path) → x ≡ startAbove s path allowed top
+    unfolding startAbove
+    passed e = e ∙ or-passed (opening s path allowed) (aboveLast s top (components path)) o z
+
+    pub above-root : {m : ℕ} → m ≡ length (components path) → m ≡ 0 → refused top ≡ startAbove s path allowed top
+    above-root e y = passed (go (components path) (sym e ∙ y))
       where
-        path-next : (p a : Bool)
-            → reached r ≡ elim p as (λ _. Start) [ false ↦ refused 2 | true ↦ elim a as (λ _. Start) [ false ↦ refused 10 | true ↦ walked (walk (objects (volumeOf s)) (volumeOf s .root) (components path)) ] ]
-            → ObjectAt s r
-        path-next false a g = let z : _≡_ {A = ℕ} 0 1 = cc in absurd (omega arith)
-        path-next true false g = let z : _≡_ {A = ℕ} 0 1 = cc in absurd (omega arith)
-        path-next true true g = along e (components path) (volumeOf s .root) (root-object h e) g
+        go : (ws : List (List ℕ)) → length ws ≡ 0 → refused top ≡ aboveLast s top ws
+        go [] e = refl
+        go (w ∷ ws) e = absurd (omega arith)
+
+    -- not the root: what the walk came to
+    module _ {m : ℕ} (c : m ≡ length (components path)) (y : m ≡ 0 → ⊥) (p : List ℕ) (q : p ≡ directoryOf path) where
+      came : (x : Start) → x ≡ walkFrom s (components p) → asDirectory s x ≡ startAbove s path allowed top
+      came x e =
+          passed (go (components path) (λ u. y (c ∙ u))
+          (e ∙ ap (λ (u : List ℕ). walkFrom s (components u)) q ∙ ap (walkFrom s) (directory-components path (opened s path allowed (sym o ∙ z) .1))))
+        where
+          go : (ws : List (List ℕ)) → (length ws ≡ 0 → ⊥) → x ≡ walkFrom s (allButLast ws) → asDirectory s x ≡ aboveLast s top ws
+          go [] u f = absurd (u refl)
+          go (w ∷ ws) u f = ap (asDirectory s) f
+
+      pub above-refused : (x : Start) → x ≡ walkFrom s (components p) → ((r : ℕ) → x ≡ reached r → ⊥) → {k : ℕ} → k ≡ numberOf x → refused k ≡ startAbove s path allowed top
+      above-refused (refused l) e r f = ap refused f ∙ came (refused l) e
+      above-refused (reached d) e r f = absurd (r d refl)
+
+      module _ (d : ℕ) (e : reached d ≡ walkFrom s (components p)) where
+        pub above-file : isDir (blockIn s d) ≡ false → refused 4 ≡ startAbove s path allowed top
+        above-file k = sym (ap (λ (t : Bool). cond t (reached d) (refused 4)) k) ∙ came (reached d) e
+
+        pub above-directory : isDir (blockIn s d) ≡ true → reached d ≡ startAbove s path allowed top
+        above-directory k = sym (ap (λ (t : Bool). cond t (reached d) (refused 4)) k) ∙ came (reached d) e
+
+-- what is reached above the last component is a directory, and there is a last component
+pub record Above (s path : List ℕ) (d : ℕ) : Type 0 where
+  pub directory : DirectoryIn s d
+  pub valid : validPath path ≡ true
+  pub some-name : length (components path) ≡ 0 → ⊥
+
+pub reached-above : (s path : List ℕ) (allowed : Bool) (top d : ℕ) → reached d ≡ startAbove s path allowed top → (allowed ≡ true) × Above s path d
+unfolding startAbove
+reached-above s path allowed top d f =
+    let x = reached-opened (opening s path allowed) _ d f in
+    let o = opened s path allowed (x .0) in
+    (o .2, go (o .0) (components path) refl (x .1) (o .1))
+  where
+    by-kind : (x : Start) → reached d ≡ asDirectory s x → isDir (blockIn s d) ≡ true
+    by-kind (refused n) g = let z : _≡_ {A = ℕ} 0 1 = cc in absurd (omega arith)
+    by-kind (reached q) g = kind (isDir (blockIn s q)) refl g
+      where
+        kind : (t : Bool) → isDir (blockIn s q) ≡ t → reached d ≡ cond t (reached q) (refused 4) → isDir (blockIn s d) ≡ true
+        kind true k g = let m : q ≡ d = cc in subst (λ (r : ℕ). isDir (blockIn s r) ≡ true) m k
+        kind false k g = let z : _≡_ {A = ℕ} 0 1 = cc in absurd (omega arith)
+
+    go : wellFormed s ≡ true → (ws : List (List ℕ)) → components path ≡ ws → reached d ≡ aboveLast s top ws → validPath path ≡ true → Above s path d
+    go e [] c g v = let z : _≡_ {A = ℕ} 0 1 = cc in absurd (omega arith)
+    go e (w ∷ ws) c g v = record {
+      directory = record { formed = e; kind = by-kind (walkFrom s (allButLast (w ∷ ws))) g };
+      valid = v;
+      some-name = λ z. let y : length (w ∷ ws) ≡ 0 = ap length (sym c) ∙ z in absurd (omega arith);
+    }
+
+-- the last component, as it is read
+module _ (path : List ℕ) {n : ℕ} (e : n ≡ length (components path)) where
+  pub last-none : n ≡ 0 → {w : List ℕ} → w ≡ getD (components path) 0 [] → w ≡ lastName path
+  unfolding lastName
+  last-none z f = let m : 0 ≡ length (components path) - 1 = omega arith in f ∙ ap (λ (i : ℕ). getD (components path) i []) m
+
+  pub last-some : {w : List ℕ} → w ≡ getD (components path) (n - 1) [] → w ≡ lastName path
+  unfolding lastName
+  last-some f = f ∙ ap (λ (i : ℕ). getD (components path) (i - 1) []) e

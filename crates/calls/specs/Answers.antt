@@ -3,10 +3,13 @@ use Prim.Native.Nat.{ℕ}
 use mathlib.Core.List.{List}
 use mathlib.Core.Path.{_≡_}
 use mathlib.Core.Bool.{Bool, true, _&&_, _||_}
+use mathlib.Core.Option.{Option, none, some}
 use lib.ListN.{length, take, drop}
 use Rattle.storage.specs.Bytes.{same}
 use Rattle.tree.specs.Fields.{isDir, isFile, slotAt, taken, content}
 use Rattle.tree.specs.Verdict.{wellFormed}
+use Rattle.calls.specs.declared.slots.Index.{Index}
+use Rattle.calls.specs.declared.slots.Index.the-variants.{Nowhere, At}
 use Rattle.calls.specs.declared.walk.Step.{Step}
 use Rattle.calls.specs.declared.walk.Step.the-variants.{Child, Missing, Blocked}
 use Rattle.calls.specs.declared.walk.Start as declared-start
@@ -16,6 +19,11 @@ use Rattle.calls.specs.declared.reading.Kind.the-variants.{File, Directo
 use Rattle.calls.specs.declared.reading.Found as declared-found
 use Rattle.calls.specs.Walk.{Walk, missing, blocked, at, Start, refused, reached}
 use Rattle.calls.specs.Reading.{Kind, file, directory, Found, Read, Point, copied, blockIn}
+
+-- which slot
+abbrev pub indexOf : Index → Option ℕ
+indexOf Nowhere = none
+indexOf (At i) = some i
 
 -- where one step comes to
 abbrev pub stepOf : Step → Walk

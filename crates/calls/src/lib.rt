@@ -1,4 +1,5 @@
-// The calls that change nothing: check, find, read, read point. None of them requires anything.
+// The walk along a path, and the calls that change nothing: check, find, read, read point. None of these requires anything.
 
 pub mod reading;
+pub mod slots;
 pub mod walk;

@@ -1,23 +1,18 @@
 // The walk along a path, and how every call on a path begins.
 
-use alloc::access;
+use crate::slots;
+use crate::slots::Index;
 use alloc::block;
 use storage::Ref;
 use tree::fields;
-use tree::fields::Slot;
 ghost use mathlib.Core.Path.{_≡_};
-ghost use mathlib.Core.Bool.{true, not, _&&_};
-ghost use Prim.Native.Nat.{_<_};
-ghost use lib.Dec.{eqb};
-ghost use Rattle.storage.specs.Bytes.{same};
-ghost use Rattle.alloc.specs.Block.{blockOf};
+ghost use mathlib.Core.Bool.{true};
 ghost use Rattle.alloc.specs.Volume.{volumeOf, objects};
 ghost use Rattle.path.specs.Path.{components};
-ghost use Rattle.tree.specs.Fields.{slotAt, taken, total};
 ghost use Rattle.tree.specs.Verdict.{wellFormed};
-ghost use Rattle.calls.specs.Walk.{step, walk, walked, start};
-ghost use Rattle.calls.specs.Reading.{blockIn};
-ghost use Rattle.calls.specs.Answers.{stepOf, startOf, ObjectAt, DirectoryIn, named, refusalOf, numberOf};
+ghost use Rattle.calls.specs.Walk as spec;
+ghost use Rattle.calls.specs.Walk.{step, walkFrom};
+ghost use Rattle.calls.specs.Answers.{stepOf, startOf, ObjectAt, DirectoryIn, refusalOf, numberOf};
 
 // Where one step comes to: the child, no such component, or a file in the way.
 pub enum Step {
@@ -26,36 +21,18 @@ pub enum Step {
     Blocked,
 }
 
-// Whether slot `i` of the directory at `r` is taken, with this name.
-fn has_name(image: &[u8], r: Ref, i: usize, name: &[u8]) -> bool
-    requires { ⌜ DirectoryIn (now image) (r .0) × (i < total (blockIn (now image) (r .0))) ⌝ }
-    ensures { λ t. ⌜ t ≡ named (now (image .entry)) (r .0) i (now (name .entry)) ⌝ }
-{
-    let s = fields::slot_at(image, r, i);
-    let object = s.object;
-    if object.0 == 0 {
-        return false;
-    }
-    let held = s.name;
-    access::equals(image, held, name)
-}
-
 // The child with this name of the directory at `r`.
 fn child(image: &[u8], r: Ref, name: &[u8]) -> Step
     requires { ⌜ DirectoryIn (now image) (r .0) ⌝ }
     ensures { λ x. ⌜ stepOf x ≡ step (objects (volumeOf (now (image .entry)))) (r .0) (now (name .entry)) ⌝ }
 {
-    let n = fields::slot_count(image, r);
-    let mut i: usize = 0;
-    while i < n {
-        if has_name(image, r, i, name) {
-            let s = fields::slot_at(image, r, i);
-            let object = s.object;
-            return Step::Child(object);
-        }
-        i += 1;
-    }
-    Step::Missing
+    let found = slots::with_name(image, r, name);
+    let Index::At(i) = found else {
+        return Step::Missing;
+    };
+    let s = fields::slot_at(image, r, i);
+    let object = s.object;
+    Step::Child(object)
 }
 
 // One step, from what stands at `r` to the object with this name.
@@ -99,7 +76,7 @@ fn refusal_of(s: Step) -> u8
 // From the root along the components of the path.
 fn walk_from(image: &[u8], path: &[u8]) -> Start
     requires { ⌜ wellFormed (now image) ≡ true ⌝ }
-    ensures { λ x. ⌜ startOf x ≡ walked (walk (objects (volumeOf (now (image .entry)))) (volumeOf (now (image .entry)) .root) (components (now (path .entry)))) ⌝ }
+    ensures { λ x. ⌜ startOf x ≡ walkFrom (now (image .entry)) (components (now (path .entry))) ⌝ }
 {
     let n = path::count(path);
     let mut here = alloc::chain::root(image);
@@ -116,18 +93,61 @@ fn walk_from(image: &[u8], path: &[u8]) -> Start
     Start::Reached(here)
 }
 
-// 1, 2, 10 where the numbers are not allowed, then the walk's 3 and 4.
-pub fn begin(image: &[u8], path: &[u8], allowed: bool) -> Start
-    ensures { λ x. ⌜ startOf x ≡ start (now (image .entry)) (now (path .entry)) allowed ⌝ }
+// What is looked for first, 0 for none of it: 1, 2, and 10 where the numbers are not allowed.
+fn opening(image: &[u8], path: &[u8], allowed: bool) -> u8
+    ensures { λ n. ⌜ n ≡ spec.opening (now (image .entry)) (now (path .entry)) allowed ⌝ }
 {
     if tree::verdict::judge(image).rule != 0 {
-        return Start::Refused(1);
+        return 1;
     }
     if !path::valid_path(path) {
-        return Start::Refused(2);
+        return 2;
     }
     if !allowed {
-        return Start::Refused(10);
+        return 10;
+    }
+    0
+}
+
+// How a call on what the path names begins: 1, 2, 10, then the walk's 3 and 4.
+pub fn begin(image: &[u8], path: &[u8], allowed: bool) -> Start
+    ensures { λ x. ⌜ startOf x ≡ spec.start (now (image .entry)) (now (path .entry)) allowed ⌝ }
+{
+    let first = opening(image, path, allowed);
+    if first != 0 {
+        return Start::Refused(first);
     }
     walk_from(image, path)
+}
+
+// How a call on a slot of the directory that holds the last component begins: 1, 2, 10, `top` for the root, then the walk's 3 and 4.
+pub fn begin_above(image: &[u8], path: &[u8], allowed: bool, top: u8) -> Start
+    ensures { λ x. ⌜ startOf x ≡ spec.startAbove (now (image .entry)) (now (path .entry)) allowed top ⌝ }
+{
+    let first = opening(image, path, allowed);
+    if first != 0 {
+        return Start::Refused(first);
+    }
+    if path::count(path) == 0 {
+        return Start::Refused(top);
+    }
+    let begun = walk_from(image, path::directory(path));
+    let Start::Reached(d) = begun else {
+        return Start::Refused(number(begun));
+    };
+    if block::magic_at(image, d) != block::SFDE {
+        return Start::Refused(4);
+    }
+    Start::Reached(d)
+}
+
+// The last component of the path.
+pub fn last_name(path: &[u8]) -> &[u8]
+    ensures { λ r. ⌜ now r ≡ spec.lastName (now (path .entry)) ⌝ }
+{
+    let n = path::count(path);
+    if n == 0 {
+        return path::component(path, 0);
+    }
+    path::component(path, n - 1)
 }

@@ -5,8 +5,8 @@ use Rattle.alloc.specs.Block.{Block}
 use Rattle.tree.specs.Fields.{total}
 use Rattle.calls.proofs.Stands.{directory-stands}
 use Rattle.calls.proofs.Steps.{named-empty, named-taken, name-standing}
-use Rattle.calls.proofs.walk.has_name.Statement.{statement}
-use Rattle.calls.proofs.walk.has_name.Tie as tie
+use Rattle.calls.proofs.slots.has_name.Statement.{statement}
+use Rattle.calls.proofs.slots.has_name.Tie as tie
 
 slot-at-requires : tie.Need-slot-at-requires
 slot-at-requires c κs = (directory-stands (λ i. c .before .shared-slice-known .given i .fits) (c .before .before .pre .0) .0, subst (λ (b : Block). c .before .before .args .i < total b) (sym (directory-stands (λ i. c .before .shared-slice-known .given i .fits) (c .before .before .pre .0) .1)) (c .before .before .pre .1))
