@@ -20,3 +20,4 @@ pub mod Neighbours
 pub mod Plans
 pub mod Fitting
 pub mod Pairs
+pub mod Stages
