@@ -5,6 +5,7 @@ pub mod Data
 pub mod Placing
 pub mod Releasing
 pub mod Entries
+pub mod Filling
 pub mod Keeping
 pub mod Tiles
 pub mod Cuts
