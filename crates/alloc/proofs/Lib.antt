@@ -22,3 +22,4 @@ pub mod Plans
 pub mod Fitting
 pub mod Pairs
 pub mod Stages
+pub mod Creating
