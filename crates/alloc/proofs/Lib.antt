@@ -5,6 +5,7 @@ pub mod Data
 pub mod Placing
 pub mod Releasing
 pub mod Entries
+pub mod Filling
 pub mod Keeping
 pub mod Tiles
 pub mod Cuts
@@ -20,3 +21,5 @@ pub mod Neighbours
 pub mod Plans
 pub mod Fitting
 pub mod Pairs
+pub mod Stages
+pub mod Creating

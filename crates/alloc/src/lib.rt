@@ -4,6 +4,7 @@
 pub mod access;
 pub mod block;
 pub mod chain;
+pub mod create;
 pub mod fit;
 pub mod objects;
 pub mod pair;
