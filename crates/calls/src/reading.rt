@@ -12,7 +12,7 @@ ghost use Rattle.alloc.specs.Volume.{volumeOf, objects};
 ghost use Rattle.calls.specs.Reading as spec;
 ghost use Rattle.calls.specs.Reading.{kindOf, blockIn};
 ghost use Rattle.calls.specs.Answers.{kindIs, foundOf, ObjectAt, FileIn, Reads, Copies, Points};
-ghost use Prim.Native.Nat.{_<_, min};
+ghost use Prim.Native.Nat.{_<_};
 ghost use Rattle.storage.specs.Bytes.{zeroed};
 
 // A number alone.
@@ -80,12 +80,6 @@ pub struct ReadCount {
     pub count: u64,
 }
 
-fn smaller(a: usize, b: usize) -> usize
-    ensures { λ r. ⌜ r ≡ min a b ⌝ }
-{
-    if a < b { a } else { b }
-}
-
 // The bytes of the file at `r` from the position on, to the front of the buffer: how many.
 fn copy_from(image: &[u8], r: Ref, position: u64, buffer: &mut [u8]) -> u64
     requires { ⌜ FileIn (now image) (r .0) ⌝ }
@@ -95,7 +89,7 @@ fn copy_from(image: &[u8], r: Ref, position: u64, buffer: &mut [u8]) -> u64
     if size <= position {
         return 0;
     }
-    let n = smaller(buffer.len(), (size - position) as usize);
+    let n = storage::smaller(buffer.len() as u64, size - position) as usize;
     access::copy_out(image, r, Pos(16 + position as usize), buffer, n);
     n as u64
 }

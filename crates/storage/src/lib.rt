@@ -1,7 +1,7 @@
 // Positions in an image, and the bytes and big-endian numbers there.
 
 ghost use mathlib.Core.Path.{_≡_};
-ghost use Prim.Native.Nat.{ℕ, _+_, _*_, _%_, _≤_, _<_};
+ghost use Prim.Native.Nat.{ℕ, _+_, _*_, _%_, _≤_, _<_, min, max};
 ghost use mathlib.Core.List.{[], _∷_};
 ghost use lib.ListN.{length, getD, take, drop};
 ghost use lib.Seq.{slice};
@@ -48,6 +48,18 @@ pub fn past(r: Ref, units: u64) -> Ref
     ensures { λ q. ⌜ q .0 ≡ r .0 + units ⌝ }
 {
     Ref(r.0 + units)
+}
+
+pub fn smaller(a: u64, b: u64) -> u64
+    ensures { λ r. ⌜ r ≡ min a b ⌝ }
+{
+    if a < b { a } else { b }
+}
+
+pub fn larger(a: u64, b: u64) -> u64
+    ensures { λ r. ⌜ r ≡ max a b ⌝ }
+{
+    if a < b { b } else { a }
 }
 
 fn wide(b: u8) -> u32

@@ -1,9 +1,9 @@
 -- copy_from: nothing from the file's end on, else what fits.
-use Rattle.calls.proofs.Contents.{file-standing, file-numbers, size-high, copies-none, copy-inside, copies-some}
-use borrow.Author.Needs.{needs}
-use Rattle.calls.proofs.reading.copy_from.Statement.{statement}
 use Rattle.calls.proofs.reading.copy_from.Tie as tie
 use native.Mathlib.Omega.{arith}
+use borrow.Author.Needs.{needs}
+use Rattle.calls.proofs.Contents.{copies-none, copies-some, copy-inside, file-numbers, file-standing, size-high}
+use Rattle.calls.proofs.reading.copy_from.Statement.{statement}
 
 read-u64-requires : tie.Need-read-u64-requires
 read-u64-requires c κs = (file-standing (λ i. c .before .shared-slice-known .given i .fits) (c .before .before .pre), omega (arith, file-numbers (λ i. c .before .shared-slice-known .given i .fits) (c .before .before .pre)))
@@ -17,8 +17,8 @@ sub-smaller c = search needs
 smaller-requires : tie.Need-smaller-requires
 smaller-requires c κs = search needs
 
-add-t11 : tie.Need-add-t11
-add-t11 c = omega (arith, size-high (λ i. c .before .before .before .before .shared-slice-known .given i .fits) (c .before .before .before .before .before .pre) (c .before .before .read-u64 .ensures))
+add-t14 : tie.Need-add-t14
+add-t14 c = omega (arith, size-high (λ i. c .before .before .before .before .shared-slice-known .given i .fits) (c .before .before .before .before .before .pre) (c .before .before .read-u64 .ensures))
 
 copy-out-requires : tie.Need-copy-out-requires
 copy-out-requires c κs =
@@ -39,7 +39,7 @@ copy-from-spec =
     returns
     sub-smaller
     smaller-requires
-    add-t11
+    add-t14
     copy-out-requires
     same-length
     returns-2)
