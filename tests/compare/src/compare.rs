@@ -1,0 +1,74 @@
+//! One call on the model and on the library, and what differs.
+
+use crate::call::{on_model, Call, Outcome};
+use crate::coverage::Coverage;
+use crate::library::on_library;
+use crate::model::check::broken_rule;
+
+/// Runs calls on both, and counts them.
+pub struct Bout<'a> {
+    pub coverage: &'a mut Coverage,
+    /// Calls of this history so far.
+    calls: u64,
+    /// Print each call before it is made, to find one that does not come back.
+    tell: bool,
+}
+
+impl<'a> Bout<'a> {
+    pub fn new(coverage: &'a mut Coverage, tell: bool) -> Bout<'a> {
+        Bout { coverage, calls: 0, tell }
+    }
+
+    /// Changes the image as the model does; an error tells the call and the difference.
+    pub fn step(&mut self, image: &mut Vec<u8>, call: &Call) -> Result<Outcome, String> {
+        self.calls += 1;
+        if self.tell {
+            println!("call {}, {call}", self.calls);
+        }
+        let before = image.clone();
+        let wanted = on_model(image, call);
+        self.coverage.count_call(call.index(), wanted.refusal);
+        match self.difference(&before, image, call, &wanted) {
+            None => Ok(wanted),
+            Some(what) => {
+                Err(format!("call {}, {call}, on an image of {} bytes: {what}", self.calls, before.len()))
+            }
+        }
+    }
+
+    fn difference(&self, before: &[u8], after: &[u8], call: &Call, wanted: &Outcome) -> Option<String> {
+        if let Some(what) = misled(before, after, wanted) {
+            return Some(what);
+        }
+        let (found, image) = match on_library(before, call) {
+            Ok(answer) => answer,
+            Err(what) => return Some(what),
+        };
+        if found.refusal != wanted.refusal {
+            return Some(format!("answer {}, model {}", found.refusal, wanted.refusal));
+        }
+        if found.numbers != wanted.numbers {
+            return Some(format!("numbers {:?}, model {:?}", found.numbers, wanted.numbers));
+        }
+        unlike("buffer", &found.buffer, &wanted.buffer).or_else(|| unlike("image", &image, after))
+    }
+}
+
+/// What the model must keep itself: a refusal changes nothing, and no call spoils an image.
+fn misled(before: &[u8], after: &[u8], wanted: &Outcome) -> Option<String> {
+    if wanted.refusal != 0 {
+        return unlike("image of the refusing model", after, before);
+    }
+    let changed = before != after;
+    (changed && broken_rule(after) != 0).then(|| "the model spoiled the image".to_string())
+}
+
+fn unlike(what: &str, found: &[u8], wanted: &[u8]) -> Option<String> {
+    let at = (0..found.len()).find(|&at| found[at] != wanted[at])?;
+    let count = (0..found.len()).filter(|&at| found[at] != wanted[at]).count();
+    let (unit, pos) = (at / 16, at % 16);
+    Some(format!(
+        "{what}: {count} bytes differ, first byte {at} (unit {unit}, pos {pos}): {:02x}, model {:02x}",
+        found[at], wanted[at]
+    ))
+}

@@ -1,0 +1,117 @@
+//! What the histories have met.
+
+use crate::call::{ANSWERS, CALLS};
+use std::collections::BTreeSet;
+
+const NUMBERS: usize = 15;
+const SIZES: [usize; 6] = [256, 1024, 4096, 65_536, 1_048_576, usize::MAX];
+
+#[derive(Default)]
+pub struct Coverage {
+    calls: [[u64; NUMBERS]; CALLS.len()],
+    lengths: BTreeSet<usize>,
+    images: [u64; SIZES.len()],
+    pub bad_lengths: u64,
+    pub scattered: u64,
+    pub foreign: u64,
+    broken: [u64; 9],
+    pub deepest: usize,
+    pub most_free_blocks: usize,
+    pub most_objects: usize,
+    pub full_cards: u64,
+}
+
+impl Coverage {
+    pub fn count_call(&mut self, call: usize, answer: u8) {
+        self.calls[call][answer as usize] += 1;
+    }
+
+    pub fn count_image(&mut self, length: usize) {
+        self.lengths.insert(length);
+        let class = SIZES.iter().position(|&most| length <= most).unwrap();
+        self.images[class] += 1;
+    }
+
+    /// A damaged image, by the first rule that it breaks; 0 where it broke none.
+    pub fn count_damaged(&mut self, rule: u8) {
+        self.broken[rule as usize] += 1;
+    }
+
+    pub fn count_scene(&mut self, depth: usize, free_blocks: usize, objects: usize) {
+        self.deepest = self.deepest.max(depth);
+        self.most_free_blocks = self.most_free_blocks.max(free_blocks);
+        self.most_objects = self.most_objects.max(objects);
+        self.full_cards += u64::from(free_blocks == 0);
+    }
+
+    pub fn calls_in_all(&self) -> u64 {
+        self.calls.iter().flatten().sum()
+    }
+
+    pub fn print(&self) {
+        self.print_calls();
+        self.print_images();
+        let damaged: u64 = self.broken.iter().sum();
+        println!("damaged images {damaged}; by the first rule broken:");
+        for (rule, count) in self.broken.iter().enumerate().skip(1) {
+            println!("  rule {rule}  {count}");
+        }
+        println!("  none    {}", self.broken[0]);
+        println!("scattered images {}, foreign bytes put {} times", self.scattered, self.foreign);
+        println!(
+            "deepest path {}, most free blocks {}, most objects {}, calls on full cards {}",
+            self.deepest, self.most_free_blocks, self.most_objects, self.full_cards
+        );
+    }
+
+    fn print_calls(&self) {
+        print!("{:<15}", "answers");
+        for number in 0..NUMBERS - 1 {
+            print!("{number:>8}");
+        }
+        println!();
+        for (call, name) in CALLS.iter().enumerate() {
+            print!("{name:<15}");
+            for number in 0..NUMBERS - 1 {
+                print!("{:>8}", self.cell(call, number));
+            }
+            println!();
+        }
+        println!("calls {}", self.calls_in_all());
+        for missing in self.never_seen() {
+            println!("never seen: {missing}");
+        }
+    }
+
+    /// A count, or a point where the call cannot give this answer.
+    fn cell(&self, call: usize, number: usize) -> String {
+        match self.calls[call][number] {
+            0 if !ANSWERS[call].contains(&(number as u8)) => ".".to_string(),
+            count => count.to_string(),
+        }
+    }
+
+    fn never_seen(&self) -> Vec<String> {
+        let mut missing = Vec::new();
+        for (call, answers) in ANSWERS.iter().enumerate() {
+            for &answer in answers.iter().filter(|&&answer| self.calls[call][answer as usize] == 0) {
+                missing.push(format!("{} answering {answer}", CALLS[call]));
+            }
+        }
+        missing
+    }
+
+    fn print_images(&self) {
+        println!(
+            "image lengths {}, not allowed {} times; images by length:",
+            self.lengths.len(),
+            self.bad_lengths
+        );
+        for (most, count) in SIZES.iter().zip(self.images) {
+            match *most {
+                usize::MAX => println!("  longer   {count}"),
+                most => println!("  to {most:<8}{count}"),
+            }
+        }
+    }
+}

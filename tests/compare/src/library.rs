@@ -1,0 +1,177 @@
+//! The store under test, through its C interface. Everything lent stands between guard bytes.
+
+use crate::call::{Call, Outcome};
+
+#[link(name = "sffs1", kind = "static")]
+extern "C" {
+    fn sffs1_format(image: *mut u8, image_len: usize, slots: u64) -> u8;
+    fn sffs1_check(image: *const u8, image_len: usize) -> u8;
+    fn sffs1_find(
+        image: *const u8,
+        image_len: usize,
+        path: *const u8,
+        path_len: usize,
+        reference: *mut u64,
+        directory: *mut u8,
+        first: *mut u64,
+        second: *mut u64,
+    ) -> u8;
+    fn sffs1_make_directory(
+        image: *mut u8,
+        image_len: usize,
+        path: *const u8,
+        path_len: usize,
+        slots: u64,
+        reference: *mut u64,
+    ) -> u8;
+    fn sffs1_make_file(
+        image: *mut u8,
+        image_len: usize,
+        path: *const u8,
+        path_len: usize,
+        room: u64,
+        reference: *mut u64,
+    ) -> u8;
+    fn sffs1_read(
+        image: *const u8,
+        image_len: usize,
+        path: *const u8,
+        path_len: usize,
+        position: u64,
+        buffer: *mut u8,
+        buffer_len: usize,
+        count: *mut u64,
+    ) -> u8;
+    fn sffs1_read_point(
+        image: *const u8,
+        image_len: usize,
+        path: *const u8,
+        path_len: usize,
+        number: u64,
+        point: *mut u8,
+    ) -> u8;
+    fn sffs1_write(
+        image: *mut u8,
+        image_len: usize,
+        path: *const u8,
+        path_len: usize,
+        position: u64,
+        bytes: *const u8,
+        bytes_len: usize,
+    ) -> u8;
+    fn sffs1_set_length(
+        image: *mut u8,
+        image_len: usize,
+        path: *const u8,
+        path_len: usize,
+        length: u64,
+    ) -> u8;
+    fn sffs1_remove(image: *mut u8, image_len: usize, path: *const u8, path_len: usize) -> u8;
+}
+
+/// What an out number holds before the call: never an answer.
+const JUNK: u64 = 0xa5c3_9687_b4d2_e1f0;
+const GUARD: [u8; 37] = [0xdb; 37];
+
+/// Lent bytes between two guards.
+struct Lent {
+    bytes: Vec<u8>,
+    length: usize,
+}
+
+impl Lent {
+    fn new(content: &[u8]) -> Lent {
+        Lent { bytes: [&GUARD, content, &GUARD].concat(), length: content.len() }
+    }
+
+    fn pointer(&mut self) -> *mut u8 {
+        self.bytes[GUARD.len()..].as_mut_ptr()
+    }
+
+    fn content(&self) -> &[u8] {
+        &self.bytes[GUARD.len()..][..self.length]
+    }
+
+    fn guarded(&self) -> bool {
+        self.bytes[..GUARD.len()] == GUARD && self.bytes[GUARD.len() + self.length..] == GUARD
+    }
+}
+
+/// The lent path, and the lent buffer or bytes; each call uses what it needs.
+struct Loan {
+    path: Lent,
+    buffer: Lent,
+}
+
+fn loan(call: &Call) -> Loan {
+    let none: &[u8] = &[];
+    let (path, buffer): (&[u8], &[u8]) = match call {
+        Call::Format { .. } | Call::Check => (none, none),
+        Call::Find { path } | Call::Remove { path } | Call::SetLength { path, .. } => (path, none),
+        Call::MakeDirectory { path, .. } | Call::MakeFile { path, .. } => (path, none),
+        Call::Read { path, buffer, .. } => (path, buffer),
+        Call::ReadPoint { path, .. } => (path, &[0x6b; 16]),
+        Call::Write { path, bytes, .. } => (path, bytes),
+    };
+    Loan { path: Lent::new(path), buffer: Lent::new(buffer) }
+}
+
+/// The call on the library: its outcome and the image afterwards, or what it overran.
+pub fn on_library(image: &[u8], call: &Call) -> Result<(Outcome, Vec<u8>), String> {
+    let mut card = Lent::new(image);
+    let mut loan = loan(call);
+    let path = loan.path.content().to_vec();
+    let lent = loan.buffer.content().to_vec();
+    let (refusal, numbers) = enter(&mut card, &mut loan, call);
+    let whole = [("image", &card), ("path", &loan.path), ("buffer", &loan.buffer)];
+    if let Some((what, _)) = whole.iter().find(|(_, lent)| !lent.guarded()) {
+        return Err(format!("bytes beside the {what} were changed"));
+    }
+    if loan.path.content() != path {
+        return Err("the path was changed".to_string());
+    }
+    let mut buffer = loan.buffer.content().to_vec();
+    if matches!(call, Call::Write { .. }) {
+        if buffer != lent {
+            return Err("the bytes to write were changed".to_string());
+        }
+        buffer.clear();
+    }
+    Ok((Outcome { refusal, numbers, buffer }, card.content().to_vec()))
+}
+
+/// The refusal and the out numbers.
+fn enter(card: &mut Lent, loan: &mut Loan, call: &Call) -> (u8, Vec<u64>) {
+    let (image, length) = (card.pointer(), card.length);
+    let (path, path_len) = (loan.path.pointer(), loan.path.length);
+    let (buffer, buffer_len) = (loan.buffer.pointer(), loan.buffer.length);
+    let (mut a, mut b, mut c, mut d) = (JUNK, JUNK, JUNK, JUNK as u8);
+    // SAFETY: every pointer is to lent bytes or numbers that live through the call, with their true lengths,
+    // and none overlap.
+    let refusal = unsafe {
+        match *call {
+            Call::Format { slots } => sffs1_format(image, length, slots),
+            Call::Check => sffs1_check(image, length),
+            Call::Find { .. } => sffs1_find(image, length, path, path_len, &mut a, &mut d, &mut b, &mut c),
+            Call::MakeDirectory { slots, .. } => {
+                sffs1_make_directory(image, length, path, path_len, slots, &mut a)
+            }
+            Call::MakeFile { room, .. } => sffs1_make_file(image, length, path, path_len, room, &mut a),
+            Call::Read { position, .. } => {
+                sffs1_read(image, length, path, path_len, position, buffer, buffer_len, &mut a)
+            }
+            Call::ReadPoint { number, .. } => sffs1_read_point(image, length, path, path_len, number, buffer),
+            Call::Write { position, .. } => {
+                sffs1_write(image, length, path, path_len, position, buffer, buffer_len)
+            }
+            Call::SetLength { length: new, .. } => sffs1_set_length(image, length, path, path_len, new),
+            Call::Remove { .. } => sffs1_remove(image, length, path, path_len),
+        }
+    };
+    let numbers = match call {
+        Call::Find { .. } => vec![a, d.into(), b, c],
+        Call::MakeDirectory { .. } | Call::MakeFile { .. } | Call::Read { .. } => vec![a],
+        _ => Vec::new(),
+    };
+    (refusal, numbers)
+}

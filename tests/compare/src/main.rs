@@ -1,0 +1,66 @@
+//! Runs random histories through the store's static library and through a model of the written rules, and
+//! compares every answer, every lent number and buffer, and every byte of the image.
+//!
+//! Arguments: the number of histories, and the seed of the first; each further history has the next seed.
+//! A third argument, 1, prints every seed and call before it is run.
+
+mod bench;
+mod call;
+mod compare;
+mod coverage;
+mod damage;
+mod foreign;
+mod history;
+mod library;
+mod model;
+mod names;
+mod pick;
+mod random;
+mod scatter;
+mod scene;
+
+use coverage::Coverage;
+use std::process::ExitCode;
+use std::time::Instant;
+
+const HISTORIES: u64 = 2000;
+const FAILURES_SHOWN: u64 = 20;
+
+fn argument(position: usize, otherwise: u64) -> u64 {
+    match std::env::args().nth(position) {
+        Some(text) => text.parse().unwrap_or_else(|_| panic!("not a number: {text}")),
+        None => otherwise,
+    }
+}
+
+fn main() -> ExitCode {
+    let (count, first, tell) = (argument(1, HISTORIES), argument(2, 1), argument(3, 0) == 1);
+    let started = Instant::now();
+    let mut coverage = Coverage::default();
+    let mut failed = 0;
+    if let Err(what) = bench::run(&mut coverage) {
+        println!("worked cases: {what}");
+        failed += 1;
+    }
+    let worked = failed;
+    for seed in first..first.saturating_add(count) {
+        if tell {
+            println!("seed {seed}");
+        }
+        if let Err(what) = history::run(seed, &mut coverage, tell) {
+            failed += 1;
+            if failed <= FAILURES_SHOWN {
+                println!("seed {seed}, {what}");
+            }
+        }
+    }
+    coverage.print();
+    let seconds = started.elapsed().as_secs_f64();
+    println!(
+        "seeds from {first}; {:.1} s, {:.0} calls a second",
+        seconds,
+        coverage.calls_in_all() as f64 / seconds
+    );
+    println!("{} passed, {failed} failed", count + worked - failed);
+    ExitCode::from(u8::from(failed > 0))
+}
