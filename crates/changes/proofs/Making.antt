@@ -1,0 +1,288 @@
+-- Making: new blocks, and a slot filled.
+use Prim.Native.Nat.{_%_, _*_, _+_, _-_, _<_, _≤_, suc, zero, ℕ}
+use mathlib.Core.Bool.{Bool, true}
+use mathlib.Core.List.{List, [], _++_, _∷_, append-nil}
+use mathlib.Core.Option.{Option, none, some}
+use mathlib.Core.Path.{_∙_, _≡_, ap, refl, subst, sym}
+use native.Mathlib.Nat.{add-zero, zero-add}
+use native.Mathlib.Omega.{arith}
+use lib.Dec.{leb}
+use lib.ListN.{drop, getD, length, length-append}
+use borrow.Author.Tests.{eq-eqb, le-leb, leb-true}
+use Rattle.storage.specs.Bytes.{be64, splice, zeroed}
+use Rattle.storage.proofs.Booleans.{and-true}
+use Rattle.storage.proofs.Numbers.{AllBytes, length-be64}
+use Rattle.storage.proofs.Splice.{splice-none}
+use Rattle.path.specs.Name.{validName}
+use Rattle.path.specs.Path.{allValid, components, validPath}
+use Rattle.path.proofs.Paths.{name-length, valid-components}
+use Rattle.alloc.specs.Answers.{PlacesPair}
+use Rattle.alloc.specs.Block.{Block, SFde, SFna, SFre, sizeAt}
+use Rattle.alloc.specs.Room.{PlacedPair, afterUpdate, blank, placePair, updated, withExtents}
+use Rattle.alloc.specs.Sound.{Holds, Object, Sound}
+use Rattle.alloc.specs.Tiling.{otherKind}
+use Rattle.alloc.specs.Volume.{Extent, blockAt, image, objects, objectsFrom, volumeOf}
+use Rattle.alloc.proofs.Changes.{Renewed}
+use Rattle.alloc.proofs.Creating.{drop-zeroed}
+use Rattle.alloc.proofs.Data.{spliced}
+use Rattle.alloc.proofs.Filling.{pair-filled, pair-other, pair-there, pair-unfilled, updated-kept}
+use Rattle.alloc.proofs.Releasing.{length-zeroed}
+use Rattle.alloc.proofs.Stages.{PairIn, stage-holds, stage-image, stage-pair, stage-size, stage-start, stage-unpaired, stage-updated}
+use Rattle.tree.proofs.Formed.{dir-there, formed-dir, formed-sound}
+use Rattle.calls.specs.Reading.{blockIn}
+use Rattle.calls.specs.Walk.{Start, emptySlot, lastName, reached, refused, slotNamed, startAbove}
+use Rattle.changes.specs.Answers.{Makes, Named, Vacant, magicFor, parentField, sizeFor}
+use Rattle.changes.specs.Changing.{Made, New, allowed, directory, file, fillSlot, make, makeAt, makeIn, newBlock, newName, setSlot, unmade, withRoot}
+
+-- ---- blank blocks, filled
+
+over-zeros : (n m : ℕ) (x : List ℕ) → length x + m ≡ n → splice (zeroed n) 0 x ≡ x ++ zeroed m
+unfolding splice
+over-zeros n m x e = ap (λ (l : List ℕ). x ++ l) (ap (λ (k : ℕ). drop k (zeroed n)) (zero-add (length x)) ∙ drop-zeroed (length x) m n e)
+
+pub filled-name : (w : List ℕ) → spliced (blank SFna (length w)) 0 w ≡ newName w
+filled-name w = ap newName (over-zeros (length w) 0 w (add-zero (length w)) ∙ append-nil w)
+
+pub filled-object : (new : New) (d : ℕ) → spliced (blank (magicFor new) (sizeFor new)) 0 (parentField new d) ≡ newBlock new d
+filled-object (directory k) d =
+    ap (λ (l : List ℕ). record { magic = SFde; body = l }) (over-zeros (8 + 16 * k) (16 * k) (be64 d) (ap (λ (n : ℕ). n + 16 * k) (length-be64 d)))
+filled-object (file n) d = ap (λ (l : List ℕ). record { magic = SFre; body = l }) (splice-none (zeroed (16 + n)) 0)
+
+-- ---- their kinds
+
+pub name-object : {w : List ℕ} → Named w → Object SFna (length w)
+unfolding otherKind
+name-object {w} n = record {
+  kind = rw (le-leb 1 (length w) (n .least), le-leb (length w) 64 (n .most));
+  used = λ e. omega arith;
+}
+
+-- the numbers that are allowed
+pub directory-bounds : (k : ℕ) → allowed (directory k) ≡ true → (1 ≤ k) × (k ≤ 1024)
+directory-bounds k e = let f = and-true (leb 1 k) (leb k 1024) e in (leb-true 1 k (f .0), leb-true k 1024 (f .1))
+
+pub file-bounds : (n : ℕ) → allowed (file n) ≡ true → n ≤ 65536
+file-bounds n e = leb-true n 65536 (and-true (leb 0 n) (leb n 65536) e .1)
+
+pub new-object : (new : New) → allowed new ≡ true → Object (magicFor new) (sizeFor new)
+unfolding otherKind
+new-object (directory k) e =
+    let b = directory-bounds k e in
+    record {
+      kind = rw (eq-eqb ((8 + 16 * k) % 16) 8 (omega arith), le-leb 24 (8 + 16 * k) (omega arith), le-leb (8 + 16 * k) 16392 (omega arith));
+      used = λ e. omega arith;
+    }
+new-object (file n) e =
+    let b = file-bounds n e in
+    record { kind = rw (le-leb 16 (16 + n) (omega arith), le-leb (16 + n) 65552 (omega arith)); used = λ e. omega arith }
+
+parent-fits : (new : New) (d : ℕ) → 0 + length (parentField new d) ≤ sizeFor new
+parent-fits (directory k) d = omega (arith, length-be64 d)
+parent-fits (file n) d = omega arith
+
+magic-there : (new : New) → 0 < magicFor new
+magic-there (directory k) = omega arith
+magic-there (file n) = omega arith
+
+-- ---- a slot filled
+
+module _ {s : List ℕ} (h : AllBytes s) {d i : ℕ} {w : List ℕ} {new : New} (v : Vacant s d i w new) where
+  abbrev es : List Extent
+  es = volumeOf s .extents
+
+  abbrev name : Block
+  name = blank SFna (length w)
+
+  abbrev object : Block
+  object = blank (magicFor new) (sizeFor new)
+
+  name-fits : 0 + length w ≤ length (name .body)
+  name-fits = omega (arith, length-zeroed (length w))
+
+  object-fits : 0 + length (parentField new d) ≤ length (object .body)
+  object-fits = omega (arith, parent-fits new d, length-zeroed (sizeFor new))
+
+  pub vacant-sound : Sound s
+  vacant-sound = formed-sound s h (v .directory .formed)
+
+  directory-there : 0 < blockAt (objectsFrom 2 es) d .magic
+  unfolding objects
+  directory-there = dir-there (blockIn s d) (v .directory .kind)
+
+  slot-fits : 24 + 16 * i ≤ length (blockAt (objectsFrom 2 es) d .body)
+  unfolding objects
+  slot-fits = omega (arith, formed-dir s h (v .directory .formed) d (v .directory .kind) .0, v .slot)
+
+  fill-so : (o : Option PlacedPair) → placePair (newName w) (newBlock new d) es ≡ o
+      → fillSlot s new w d i ≡ elim o [
+        | none ↦ unmade 8 s
+        | some x ↦ record { refusal = 0; at = x .object; image = image (withRoot s (setSlot d i (x .name) (x .object) (x .extents))) }
+      ]
+  unfolding fillSlot
+  fill-so o e = rw (e, fillSlot)
+
+  -- no room
+  pub fill-none : {t : List ℕ} → PlacesPair s (length w) (magicFor new) (sizeFor new) none t → Makes (fillSlot s new w d i) 8 0 t
+  fill-none {t} p =
+      let q = stage-unpaired (stage-start vacant-sound) p in
+      let e : placePair (newName w) (newBlock new d) es ≡ none =
+      ap (λ (b : Block). placePair b (newBlock new d) es) (sym (filled-name w))
+      ∙ ap (λ (b : Block). placePair (spliced name 0 w) b es) (sym (filled-object new d))
+      ∙ pair-unfilled name object es 0 w 0 (parentField new d) (q .0) name-fits object-fits (omega arith) (magic-there new) in
+      subst (λ (m : Made). Makes m 8 0 t) (sym (fill-so none e)) (record { refusal-is = refl; at-is = refl; image-is = q .1 })
+
+  module _ {n o : ℕ} {t : List ℕ} (p : PlacesPair s (length w) (magicFor new) (sizeFor new) (some (n, o)) t) where
+    pair : PairIn s es name object n o t
+    pair = stage-pair (stage-start vacant-sound) (name-object (v .name)) (new-object new (v .bounds)) p
+
+    abbrev x : PlacedPair
+    x = pair .placed
+
+    name-block : blockAt (objectsFrom 2 (x .extents)) n ≡ name
+    name-block =
+        ap (blockAt (objectsFrom 2 (x .extents))) (sym (pair .name-ref)) ∙ pair-there name object es x (pair .places) (omega arith) (magic-there new) .0
+
+    object-block : blockAt (objectsFrom 2 (x .extents)) o ≡ object
+    object-block =
+        ap (blockAt (objectsFrom 2 (x .extents))) (sym (pair .object-ref)) ∙ pair-there name object es x (pair .places) (omega arith) (magic-there new) .1
+
+    name-there-it : 0 < blockAt (objectsFrom 2 (x .extents)) n .magic
+    name-there-it = omega (arith, ap (λ (b : Block). b .magic) name-block)
+
+    name-room : 0 + length w ≤ length (blockAt (objectsFrom 2 (x .extents)) n .body)
+    name-room = omega (arith, ap (λ (b : Block). length (b .body)) name-block, name-fits)
+
+    -- the name's bytes
+    pub fill-name : Holds t n × (0 + length w ≤ sizeAt t n)
+    fill-name = (stage-holds (pair .renewed) n name-there-it, omega (arith, stage-size (pair .renewed) n name-there-it, name-room))
+
+    module _ {t1 : List ℕ} (e1 : t1 ≡ afterUpdate n 0 w t) where
+      named-stage : Renewed s (updated n 0 w 2 (x .extents)) t1
+      named-stage = stage-updated (pair .renewed) n 0 w name-there-it name-room e1
+
+      object-kept : (blockAt (objectsFrom 2 (updated n 0 w 2 (x .extents))) o .magic ≡ object .magic)
+          × (length (blockAt (objectsFrom 2 (updated n 0 w 2 (x .extents))) o .body) ≡ length (object .body))
+      object-kept =
+          let k = updated-kept n 0 w (x .extents) name-there-it name-room o in
+          (k .0 ∙ ap (λ (b : Block). b .magic) object-block, k .1 ∙ ap (λ (b : Block). length (b .body)) object-block)
+
+      object-there : 0 < blockAt (objectsFrom 2 (updated n 0 w 2 (x .extents))) o .magic
+      object-there = omega (arith, object-kept .0, magic-there new)
+
+      object-room : 0 + length (parentField new d) ≤ length (blockAt (objectsFrom 2 (updated n 0 w 2 (x .extents))) o .body)
+      object-room = omega (arith, object-kept .1, object-fits)
+
+      -- the object's
+      pub fill-object : Holds t1 o × (length (parentField new d) ≤ sizeAt t1 o)
+      fill-object = (stage-holds named-stage o object-there, omega (arith, stage-size named-stage o object-there, object-room))
+
+      module _ {t2 : List ℕ} (e2 : t2 ≡ afterUpdate o 0 (parentField new d) t1) where
+        abbrev filled : List Extent
+        filled = updated o 0 (parentField new d) 2 (updated n 0 w 2 (x .extents))
+
+        filled-stage : Renewed s filled t2
+        filled-stage = stage-updated named-stage o 0 (parentField new d) object-there object-room e2
+
+        directory-kept : (blockAt (objectsFrom 2 filled) d .magic ≡ blockAt (objectsFrom 2 es) d .magic)
+            × (length (blockAt (objectsFrom 2 filled) d .body) ≡ length (blockAt (objectsFrom 2 es) d .body))
+        directory-kept =
+            let a = updated-kept o 0 (parentField new d) (updated n 0 w 2 (x .extents)) object-there object-room d in
+            let b = updated-kept n 0 w (x .extents) name-there-it name-room d in
+            let c = pair-other name object es x (pair .places) (omega arith) (magic-there new) d directory-there in
+            (a .0 ∙ b .0 ∙ ap (λ (b : Block). b .magic) c, a .1 ∙ b .1 ∙ ap (λ (b : Block). length (b .body)) c)
+
+        still-there : 0 < blockAt (objectsFrom 2 filled) d .magic
+        still-there = omega (arith, directory-kept .0, directory-there)
+
+        -- the slot's
+        pub fill-slot : Holds t2 d × (24 + 16 * i ≤ sizeAt t2 d)
+        fill-slot = (stage-holds filled-stage d still-there, omega (arith, stage-size filled-stage d still-there, directory-kept .1, slot-fits))
+
+        pub fill-done : {t3 : List ℕ} → t3 ≡ afterUpdate d (8 + 16 * i) (be64 n ++ be64 o) t2 → Makes (fillSlot s new w d i) 0 o t3
+        unfolding withExtents
+        fill-done {t3} e3 =
+            let r : 8 + 16 * i + length (be64 n ++ be64 o) ≤ length (blockAt (objectsFrom 2 filled) d .body) =
+            omega (arith, length-append (be64 n) (be64 o), length-be64 n, length-be64 o, directory-kept .1, slot-fits) in
+            let g : t3 ≡ image (withRoot s (setSlot d i n o filled)) = stage-image (stage-updated filled-stage d (8 + 16 * i) (be64 n ++ be64 o) still-there r e3) in
+            let f : ℕ → ℕ → List ℕ = λ a b. image (withRoot s (setSlot d i a b (updated b 0 (parentField new d) 2 (updated a 0 w 2 (x .extents))))) in
+            let e : placePair (newName w) (newBlock new d) es
+            ≡ some (record { name = x .name; object = x .object; extents = updated (x .object) 0 (parentField new d) 2 (updated (x .name) 0 w 2 (x .extents)) }) =
+            ap (λ (b : Block). placePair b (newBlock new d) es) (sym (filled-name w))
+            ∙ ap (λ (b : Block). placePair (spliced name 0 w) b es) (sym (filled-object new d))
+            ∙ pair-filled name object es x 0 w 0 (parentField new d) (pair .places) name-fits object-fits (omega arith) (magic-there new) in
+            subst (λ (m : Made). Makes m 0 o t3) (sym (fill-so _ e)) (record {
+              refusal-is = refl;
+              at-is = sym (pair .object-ref);
+              image-is = g ∙ ap (λ (a : ℕ). f a o) (sym (pair .name-ref)) ∙ ap (f (x .name)) (sym (pair .object-ref));
+            })
+
+-- ---- in a directory
+
+module _ (s : List ℕ) (new : New) (w : List ℕ) (d : ℕ) where
+  -- the name is there
+  pub make-there : {j : ℕ} → some j ≡ slotNamed (objects (volumeOf s)) (blockIn s d) w → Makes (makeIn s new w d) 6 0 s
+  unfolding makeIn
+  make-there e = rw (sym e, makeIn) (record { refusal-is = refl; at-is = refl; image-is = refl })
+
+  module _ (e : none ≡ slotNamed (objects (volumeOf s)) (blockIn s d) w) where
+    -- no slot is empty
+    pub make-full : none ≡ emptySlot (blockIn s d) → Makes (makeIn s new w d) 7 0 s
+    unfolding makeIn
+    make-full f = rw (sym e, makeIn) (rw (sym f) (record { refusal-is = refl; at-is = refl; image-is = refl }))
+
+    pub make-filled : {i : ℕ} → some i ≡ emptySlot (blockIn s d) → (n o : ℕ) (t : List ℕ) → Makes (fillSlot s new w d i) n o t → Makes (makeIn s new w d) n o t
+    unfolding makeIn
+    make-filled f n o t m = rw (sym e, makeIn) (rw (sym f) m)
+
+-- ---- on a path
+
+module _ (s path : List ℕ) (new : New) where
+  made : (x : Start) → x ≡ startAbove s path (allowed new) 6 → (n o : ℕ) (t : List ℕ) → Makes (makeAt s new (lastName path) x) n o t → Makes (make s path new) n o t
+  unfolding make
+  made x e n o t m = subst (λ (y : Start). Makes (makeAt s new (lastName path) y) n o t) e m
+
+  module _ {a : Bool} (b : a ≡ allowed new) where
+    pub make-refused : (n : ℕ) → refused n ≡ startAbove s path a 6 → (k o : ℕ) → k ≡ n → o ≡ 0 → Makes (make s path new) k o s
+    make-refused n e k o f g = made (refused n) (e ∙ ap (λ (t : Bool). startAbove s path t 6) b) k o s (record { refusal-is = f; at-is = g; image-is = refl })
+
+    pub make-reached : (d : ℕ) → reached d ≡ startAbove s path a 6 → (w : List ℕ) → w ≡ lastName path → (n o : ℕ) (t : List ℕ)
+        → Makes (makeIn s new w d) n o t → Makes (make s path new) n o t
+    make-reached d e w f n o t m = made (reached d) (e ∙ ap (λ (t : Bool). startAbove s path t 6) b) n o t (subst (λ (v : List ℕ). Makes (makeIn s new v d) n o t) f m)
+
+-- the last component is as long as a name
+pub last-named : (path w : List ℕ) → validPath path ≡ true → (length (components path) ≡ 0 → ⊥) → w ≡ lastName path → Named w
+unfolding lastName allValid
+last-named path w v n e =
+    let l = name-length (getD (components path) (length (components path) - 1) []) (valid-at (components path) (length (components path) - 1) (omega (arith, positive (length (components path)) n)) (valid-components path v .0)) in
+    subst Named (sym e) (record { least = l .0; most = l .1 })
+  where
+    positive : (m : ℕ) → (m ≡ 0 → ⊥) → 0 < m
+    positive zero h = absurd (h refl)
+    positive (suc m) h = omega arith
+
+    valid-at : (ws : List (List ℕ)) (i : ℕ) → i < length ws → allValid ws ≡ true → validName (getD ws i []) ≡ true
+    valid-at [] i l e = absurd (omega arith)
+    valid-at (w ∷ ws) zero l e = and-true (validName w) (allValid ws) e .0
+    valid-at (w ∷ ws) (suc i) l e = valid-at ws i (omega arith) (and-true (validName w) (allValid ws) e .1)
+
+-- ---- as the code tells it
+
+-- what a new object's block is given
+pub parent-directory : (new : New) (k d : ℕ) → new ≡ directory k → be64 d ≡ parentField new d
+parent-directory new k d e = sym (ap (λ (n : New). parentField n d) e)
+
+pub parent-file : (new : New) (n d : ℕ) → new ≡ file n → [] ≡ parentField new d
+parent-file new n d e = sym (ap (λ (n : New). parentField n d) e)
+
+pub pair-told : {s t : List ℕ} {k m n m′ n′ : ℕ} {o o′ : Option (ℕ × ℕ)} → m ≡ m′ → n ≡ n′ → o ≡ o′ → PlacesPair s k m n o t → PlacesPair s k m′ n′ o′ t
+pair-told {s} {t} {k} {m} {n} {m′} {n′} {o} {o′} e f g p =
+    subst (λ (x : ℕ). PlacesPair s k x n′ o′ t) e (subst (λ (x : ℕ). PlacesPair s k m x o′ t) f (subst (λ (x : Option (ℕ × ℕ)). PlacesPair s k m n x t) g p))
+
+pub object-told : {m n m′ n′ : ℕ} → m ≡ m′ → n ≡ n′ → Object m′ n′ → Object m n
+object-told {m} {n} {m′} {n′} e f o = subst (λ (x : ℕ). Object x n) (sym e) (subst (λ (x : ℕ). Object m′ x) (sym f) o)
+
+pub unmade-told : {m : Made} {t : List ℕ} {k n o : ℕ} → n ≡ k → o ≡ 0 → Makes m k 0 t → Makes m n o t
+unmade-told e f w = record { refusal-is = e ∙ w .refusal-is; at-is = f ∙ w .at-is; image-is = w .image-is }
+
+pub file-allowed : (n : ℕ) → leb n 65536 ≡ allowed (file n)
+file-allowed n = sym (rw (le-leb 0 n (omega arith)))

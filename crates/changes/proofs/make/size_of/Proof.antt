@@ -1,0 +1,50 @@
+-- size_of: by what is to be made.
+use Rattle.changes.proofs.make.size_of.Tie as tie
+use mathlib.Core.Path.{_∙_, ap, sym}
+use native.Mathlib.Omega.{arith}
+use borrow.Author.Needs.{needs}
+use Rattle.changes.specs.Answers.{newOf, sizeFor}
+use Rattle.changes.specs.Changing.{allowed}
+use Rattle.changes.proofs.Making.{directory-bounds, file-bounds}
+use Rattle.changes.proofs.make.size_of.Statement.{statement}
+
+enum-known-new : tie.Need-enum-known-new
+enum-known-new c = search needs
+
+cast-result : tie.Need-cast-result
+cast-result c = omega (arith, directory-bounds (c .before .new .given .0 .0) (sym (ap allowed (ap newOf (c .before .new .given .1))) ∙ c .before .before .before .pre))
+
+mul-result : tie.Need-mul-result
+mul-result c = omega (arith, directory-bounds (c .before .new .given .0 .0) (sym (ap allowed (ap newOf (c .before .new .given .1))) ∙ c .before .before .before .pre))
+
+add-result : tie.Need-add-result
+add-result c = omega (arith, directory-bounds (c .before .new .given .0 .0) (sym (ap allowed (ap newOf (c .before .new .given .1))) ∙ c .before .before .before .pre))
+
+enum-known-new-2 : tie.Need-enum-known-new-2
+enum-known-new-2 c = search needs
+
+cast-result-2 : tie.Need-cast-result-2
+cast-result-2 c = omega (arith, file-bounds (c .before .new2 .given .0 .0) (sym (ap allowed (ap newOf (c .before .new2 .given .1))) ∙ c .before .before .before .pre))
+
+add-result-2 : tie.Need-add-result-2
+add-result-2 c = omega (arith, file-bounds (c .before .new2 .given .0 .0) (sym (ap allowed (ap newOf (c .before .new2 .given .1))) ∙ c .before .before .before .pre))
+
+returns : tie.Need-returns
+returns c = sym (ap sizeFor (ap newOf (c .before .new .given .1)))
+
+returns-2 : tie.Need-returns-2
+returns-2 c = sym (ap sizeFor (ap newOf (c .before .new2 .given .1)))
+
+pub size-of-spec : {M : Type 1} → statement M
+size-of-spec =
+    tie.close
+    (tie.spec
+    enum-known-new
+    cast-result
+    mul-result
+    add-result
+    enum-known-new-2
+    cast-result-2
+    add-result-2
+    returns
+    returns-2)

@@ -1,0 +1,51 @@
+// Format: a new image with a root directory and nothing else.
+
+use alloc::access;
+use alloc::block;
+use alloc::place::Placing;
+use storage::Pos;
+use storage::Ref;
+ghost use mathlib.Core.Path.{_≡_};
+ghost use mathlib.Core.Bool.{true};
+ghost use Prim.Native.Nat.{_+_, _*_, _≤_, _<_};
+ghost use lib.ListN.{length};
+ghost use Rattle.alloc.specs.Tiling.{lengthAllowed};
+ghost use Rattle.alloc.specs.Volume as volume;
+ghost use Rattle.changes.specs.Changing as spec;
+ghost use Rattle.changes.specs.Answers.{Changes};
+
+// A number alone.
+pub struct Done {
+    pub refusal: u8,
+}
+
+// The root with so many slots, and the rest free.
+fn fresh(image: &mut [u8], slots: u32)
+    requires { ⌜ (lengthAllowed (length (now image)) ≡ true) × (0 < slots) × (slots < 1025) × (48 + 16 * slots ≤ length (now image)) ⌝ }
+    ensures { λ _. ⌜ now (image .exit) ≡ volume.image (spec.formatted (length (now (image .entry))) slots) ⌝ }
+{
+    alloc::create::empty(image, Ref(2));
+    let placed = alloc::place::block(image, block::SFDE, 8 + 16 * slots);
+    let Placing::At(root) = placed else {
+        return;
+    };
+    access::write_ref(image, root, Pos(0), root);
+}
+
+// For any bytes: superblock and root, the rest one free block.
+pub fn format(image: &mut [u8], slots: u64) -> Done
+    ensures { λ d. ⌜ Changes (spec.format (now (image .entry)) slots) (d .refusal) (now (image .exit)) ⌝ }
+{
+    let len = image.len();
+    if !alloc::tiling::length_allowed(len) {
+        return Done { refusal: 1 };
+    }
+    if (slots < 1) | (1024 < slots) {
+        return Done { refusal: 10 };
+    }
+    if len < 48 + 16 * (slots as usize) {
+        return Done { refusal: 8 };
+    }
+    fresh(image, slots as u32);
+    Done { refusal: 0 }
+}
