@@ -2,10 +2,14 @@
 
 use calls::reading;
 use calls::reading::Kind;
+use changes::bytes;
+use changes::make;
 use storage::Ref;
 ghost use mathlib.Core.Path.{_≡_};
 ghost use Rattle.calls.specs.Reading as spec;
 ghost use Rattle.calls.specs.Answers.{kindIs, Reads, Points};
+ghost use Rattle.changes.specs.Changing as changing;
+ghost use Rattle.changes.specs.Answers.{Changes, Makes};
 ghost use Rattle.sffs1.specs.Numbers.{directoryOf, firstOf, secondOf, Finds};
 
 #[no_mangle]
@@ -91,4 +95,57 @@ pub extern "C" fn sffs1_read_point(
     let bytes = answer.bytes;
     *point = bytes;
     answer.refusal
+}
+
+#[no_mangle]
+pub extern "C" fn sffs1_format(image: &mut [u8], slots: u64) -> u8
+    ensures { λ n. ⌜ Changes (changing.format (now (image .entry)) slots) n (now (image .exit)) ⌝ }
+{
+    changes::format::format(image, slots).refusal
+}
+
+#[no_mangle]
+pub extern "C" fn sffs1_make_directory(
+    image: &mut [u8],
+    path: &[u8],
+    slots: u64,
+    at: &mut u64,
+) -> u8
+    ensures { λ n. ⌜ Makes (changing.make (now (image .entry)) (now (path .entry)) (changing.directory slots)) n (now (at .exit)) (now (image .exit)) ⌝ }
+{
+    let made = make::directory(image, path, slots);
+    let place: Ref = made.at;
+    *at = place.0;
+    made.refusal
+}
+
+#[no_mangle]
+pub extern "C" fn sffs1_make_file(image: &mut [u8], path: &[u8], room: u64, at: &mut u64) -> u8
+    ensures { λ n. ⌜ Makes (changing.make (now (image .entry)) (now (path .entry)) (changing.file room)) n (now (at .exit)) (now (image .exit)) ⌝ }
+{
+    let made = make::file(image, path, room);
+    let place: Ref = made.at;
+    *at = place.0;
+    made.refusal
+}
+
+#[no_mangle]
+pub extern "C" fn sffs1_write(image: &mut [u8], path: &[u8], position: u64, bytes: &[u8]) -> u8
+    ensures { λ n. ⌜ Changes (changing.write (now (image .entry)) (now (path .entry)) position (now (bytes .entry))) n (now (image .exit)) ⌝ }
+{
+    bytes::write(image, path, position, bytes).refusal
+}
+
+#[no_mangle]
+pub extern "C" fn sffs1_set_length(image: &mut [u8], path: &[u8], length: u64) -> u8
+    ensures { λ n. ⌜ Changes (changing.setLength (now (image .entry)) (now (path .entry)) length) n (now (image .exit)) ⌝ }
+{
+    bytes::set_length(image, path, length).refusal
+}
+
+#[no_mangle]
+pub extern "C" fn sffs1_remove(image: &mut [u8], path: &[u8]) -> u8
+    ensures { λ n. ⌜ Changes (changing.remove (now (image .entry)) (now (path .entry))) n (now (image .exit)) ⌝ }
+{
+    changes::remove::remove(image, path).refusal
 }
