@@ -37,7 +37,7 @@ pub fn with_name(image: &[u8], d: Ref, name: &[u8]) -> Index
     ensures { λ x. ⌜ indexOf x ≡ slotNamed (objects (volumeOf (now (image .entry)))) (blockIn (now (image .entry)) (d .0)) (now (name .entry)) ⌝ }
 {
     let n = fields::slot_count(image, d);
-    let mut i: usize = 0;
+    let mut i = 0;
     while i < n {
         if has_name(image, d, i, name) {
             return Index::At(i);

@@ -1,5 +1,5 @@
 -- Making: new blocks, and a slot filled.
-use Prim.Native.Nat.{_%_, _*_, _+_, _-_, _<_, _≤_, suc, zero, ℕ}
+use Prim.Native.Nat.{_*_, _+_, _-_, _<_, _≤_, suc, zero, ℕ}
 use mathlib.Core.Bool.{Bool, true}
 use mathlib.Core.List.{List, [], _++_, _∷_, append-nil}
 use mathlib.Core.Option.{Option, none, some}
@@ -8,7 +8,7 @@ use native.Mathlib.Nat.{add-zero, zero-add}
 use native.Mathlib.Omega.{arith}
 use lib.Dec.{leb}
 use lib.ListN.{drop, getD, length, length-append}
-use borrow.Author.Tests.{eq-eqb, le-leb, leb-true}
+use borrow.Author.Tests.{le-leb, leb-true}
 use Rattle.storage.specs.Bytes.{be64, splice, zeroed}
 use Rattle.storage.proofs.Booleans.{and-true}
 use Rattle.storage.proofs.Numbers.{AllBytes, length-be64}
@@ -18,21 +18,24 @@ use Rattle.path.specs.Path.{allValid, components, validPath}
 use Rattle.path.proofs.Paths.{name-length, valid-components}
 use Rattle.alloc.specs.Answers.{PlacesPair}
 use Rattle.alloc.specs.Block.{Block, SFde, SFna, SFre, sizeAt}
-use Rattle.alloc.specs.Room.{PlacedPair, afterUpdate, blank, placePair, updated, withExtents}
+use Rattle.alloc.specs.Room.{PlacedPair, afterUpdate, blank, placePair, updated}
 use Rattle.alloc.specs.Sound.{Holds, Object, Sound}
 use Rattle.alloc.specs.Tiling.{otherKind}
 use Rattle.alloc.specs.Volume.{Extent, blockAt, image, objects, objectsFrom, volumeOf}
-use Rattle.alloc.proofs.Changes.{Renewed}
+use Rattle.alloc.proofs.Changes.{renewed}
 use Rattle.alloc.proofs.Creating.{drop-zeroed}
 use Rattle.alloc.proofs.Data.{spliced}
-use Rattle.alloc.proofs.Filling.{pair-filled, pair-other, pair-there, pair-unfilled, updated-kept}
+use Rattle.alloc.proofs.Filling.{pair-filled, pair-other, pair-there, pair-unfilled}
 use Rattle.alloc.proofs.Releasing.{length-zeroed}
-use Rattle.alloc.proofs.Stages.{PairIn, stage-holds, stage-image, stage-pair, stage-size, stage-start, stage-unpaired, stage-updated}
+use Rattle.alloc.proofs.Stages.{PairIn, stage-pair, stage-start, stage-unpaired}
+use Rattle.tree.specs.Fields.{total}
 use Rattle.tree.proofs.Formed.{dir-there, formed-dir, formed-sound}
 use Rattle.calls.specs.Reading.{blockIn}
 use Rattle.calls.specs.Walk.{Start, emptySlot, lastName, reached, refused, slotNamed, startAbove}
 use Rattle.changes.specs.Answers.{Makes, Named, Vacant, magicFor, parentField, sizeFor}
 use Rattle.changes.specs.Changing.{Made, New, allowed, directory, file, fillSlot, make, makeAt, makeIn, newBlock, newName, setSlot, unmade, withRoot}
+use Rattle.changes.proofs.Formatting.{directory-object}
+use Rattle.changes.proofs.Storing.{Open, open-image, store, store-at, store-other}
 
 -- ---- blank blocks, filled
 
@@ -66,12 +69,7 @@ file-bounds n e = leb-true n 65536 (and-true (leb 0 n) (leb n 65536) e .1)
 
 pub new-object : (new : New) → allowed new ≡ true → Object (magicFor new) (sizeFor new)
 unfolding otherKind
-new-object (directory k) e =
-    let b = directory-bounds k e in
-    record {
-      kind = rw (eq-eqb ((8 + 16 * k) % 16) 8 (omega arith), le-leb 24 (8 + 16 * k) (omega arith), le-leb (8 + 16 * k) 16392 (omega arith));
-      used = λ e. omega arith;
-    }
+new-object (directory k) e = let b = directory-bounds k e in directory-object k (omega arith) (omega arith)
 new-object (file n) e =
     let b = file-bounds n e in
     record { kind = rw (le-leb 16 (16 + n) (omega arith), le-leb (16 + n) 65552 (omega arith)); used = λ e. omega arith }
@@ -85,6 +83,9 @@ magic-there (directory k) = omega arith
 magic-there (file n) = omega arith
 
 -- ---- a slot filled
+
+pub slot-length : (n o : ℕ) → length (be64 n ++ be64 o) ≡ 16
+slot-length n o = omega (arith, length-append (be64 n) (be64 o), length-be64 n, length-be64 o)
 
 module _ {s : List ℕ} (h : AllBytes s) {d i : ℕ} {w : List ℕ} {new : New} (v : Vacant s d i w new) where
   abbrev es : List Extent
@@ -104,14 +105,6 @@ module _ {s : List ℕ} (h : AllBytes s) {d i : ℕ} {w : List ℕ} {new : New} 
 
   pub vacant-sound : Sound s
   vacant-sound = formed-sound s h (v .directory .formed)
-
-  directory-there : 0 < blockAt (objectsFrom 2 es) d .magic
-  unfolding objects
-  directory-there = dir-there (blockIn s d) (v .directory .kind)
-
-  slot-fits : 24 + 16 * i ≤ length (blockAt (objectsFrom 2 es) d .body)
-  unfolding objects
-  slot-fits = omega (arith, formed-dir s h (v .directory .formed) d (v .directory .kind) .0, v .slot)
 
   fill-so : (o : Option PlacedPair) → placePair (newName w) (newBlock new d) es ≡ o
       → fillSlot s new w d i ≡ elim o [
@@ -138,73 +131,51 @@ module _ {s : List ℕ} (h : AllBytes s) {d i : ℕ} {w : List ℕ} {new : New} 
     abbrev x : PlacedPair
     x = pair .placed
 
-    name-block : blockAt (objectsFrom 2 (x .extents)) n ≡ name
-    name-block =
-        ap (blockAt (objectsFrom 2 (x .extents))) (sym (pair .name-ref)) ∙ pair-there name object es x (pair .places) (omega arith) (magic-there new) .0
+    there : (blockAt (objectsFrom 2 (x .extents)) (x .name) ≡ name) × (blockAt (objectsFrom 2 (x .extents)) (x .object) ≡ object)
+    there = pair-there name object es x (pair .places) (omega arith) (magic-there new)
 
-    object-block : blockAt (objectsFrom 2 (x .extents)) o ≡ object
-    object-block =
-        ap (blockAt (objectsFrom 2 (x .extents))) (sym (pair .object-ref)) ∙ pair-there name object es x (pair .places) (omega arith) (magic-there new) .1
+    -- the three objects that are written to
+    open-at : (r : ℕ) {b : Block} → blockAt (objectsFrom 2 (x .extents)) r ≡ b → 0 < b .magic → {m : ℕ} → length (b .body) ≡ m → Open s r m (x .extents) t
+    open-at r e q l = record { renewed = pair .renewed; there = subst (λ (c : Block). 0 < c .magic) (sym e) q; size = ap (λ (c : Block). length (c .body)) e ∙ l }
 
-    name-there-it : 0 < blockAt (objectsFrom 2 (x .extents)) n .magic
-    name-there-it = omega (arith, ap (λ (b : Block). b .magic) name-block)
+    name-open : Open s n (length w) (x .extents) t
+    name-open = open-at n (ap (blockAt (objectsFrom 2 (x .extents))) (sym (pair .name-ref)) ∙ there .0) (omega arith) (length-zeroed (length w))
 
-    name-room : 0 + length w ≤ length (blockAt (objectsFrom 2 (x .extents)) n .body)
-    name-room = omega (arith, ap (λ (b : Block). length (b .body)) name-block, name-fits)
+    object-open : Open s o (sizeFor new) (x .extents) t
+    object-open =
+        open-at o (ap (blockAt (objectsFrom 2 (x .extents))) (sym (pair .object-ref)) ∙ there .1) (magic-there new) (length-zeroed (sizeFor new))
+
+    directory-open : Open s d (8 + 16 * total (blockIn s d)) (x .extents) t
+    unfolding objects
+    directory-open =
+        let q = dir-there (blockIn s d) (v .directory .kind) in
+        open-at d (pair-other name object es x (pair .places) (omega arith) (magic-there new) d q) q (formed-dir s h (v .directory .formed) d (v .directory .kind) .0)
 
     -- the name's bytes
     pub fill-name : Holds t n × (0 + length w ≤ sizeAt t n)
-    fill-name = (stage-holds (pair .renewed) n name-there-it, omega (arith, stage-size (pair .renewed) n name-there-it, name-room))
+    fill-name = store-at name-open 0 (length w) (omega arith)
 
     module _ {t1 : List ℕ} (e1 : t1 ≡ afterUpdate n 0 w t) where
-      named-stage : Renewed s (updated n 0 w 2 (x .extents)) t1
-      named-stage = stage-updated (pair .renewed) n 0 w name-there-it name-room e1
-
-      object-kept : (blockAt (objectsFrom 2 (updated n 0 w 2 (x .extents))) o .magic ≡ object .magic)
-          × (length (blockAt (objectsFrom 2 (updated n 0 w 2 (x .extents))) o .body) ≡ length (object .body))
-      object-kept =
-          let k = updated-kept n 0 w (x .extents) name-there-it name-room o in
-          (k .0 ∙ ap (λ (b : Block). b .magic) object-block, k .1 ∙ ap (λ (b : Block). length (b .body)) object-block)
-
-      object-there : 0 < blockAt (objectsFrom 2 (updated n 0 w 2 (x .extents))) o .magic
-      object-there = omega (arith, object-kept .0, magic-there new)
-
-      object-room : 0 + length (parentField new d) ≤ length (blockAt (objectsFrom 2 (updated n 0 w 2 (x .extents))) o .body)
-      object-room = omega (arith, object-kept .1, object-fits)
+      -- one object, after them
+      after-name : {r m : ℕ} → Open s r m (x .extents) t → Open s r m (updated n 0 w 2 (x .extents)) t1
+      after-name = store-other name-open 0 w (omega arith) e1
 
       -- the object's
       pub fill-object : Holds t1 o × (length (parentField new d) ≤ sizeAt t1 o)
-      fill-object = (stage-holds named-stage o object-there, omega (arith, stage-size named-stage o object-there, object-room))
+      fill-object = let k = store-at (after-name object-open) 0 (length (parentField new d)) (parent-fits new d) in (k .0, omega (arith, k .1))
 
       module _ {t2 : List ℕ} (e2 : t2 ≡ afterUpdate o 0 (parentField new d) t1) where
-        abbrev filled : List Extent
-        filled = updated o 0 (parentField new d) 2 (updated n 0 w 2 (x .extents))
-
-        filled-stage : Renewed s filled t2
-        filled-stage = stage-updated named-stage o 0 (parentField new d) object-there object-room e2
-
-        directory-kept : (blockAt (objectsFrom 2 filled) d .magic ≡ blockAt (objectsFrom 2 es) d .magic)
-            × (length (blockAt (objectsFrom 2 filled) d .body) ≡ length (blockAt (objectsFrom 2 es) d .body))
-        directory-kept =
-            let a = updated-kept o 0 (parentField new d) (updated n 0 w 2 (x .extents)) object-there object-room d in
-            let b = updated-kept n 0 w (x .extents) name-there-it name-room d in
-            let c = pair-other name object es x (pair .places) (omega arith) (magic-there new) d directory-there in
-            (a .0 ∙ b .0 ∙ ap (λ (b : Block). b .magic) c, a .1 ∙ b .1 ∙ ap (λ (b : Block). length (b .body)) c)
-
-        still-there : 0 < blockAt (objectsFrom 2 filled) d .magic
-        still-there = omega (arith, directory-kept .0, directory-there)
+        filled-open : Open s d (8 + 16 * total (blockIn s d)) (updated o 0 (parentField new d) 2 (updated n 0 w 2 (x .extents))) t2
+        filled-open = store-other (after-name object-open) 0 (parentField new d) (parent-fits new d) e2 (after-name directory-open)
 
         -- the slot's
         pub fill-slot : Holds t2 d × (24 + 16 * i ≤ sizeAt t2 d)
-        fill-slot = (stage-holds filled-stage d still-there, omega (arith, stage-size filled-stage d still-there, directory-kept .1, slot-fits))
+        fill-slot = let k = store-at filled-open (8 + 16 * i) 16 (omega (arith, v .slot)) in (k .0, omega (arith, k .1))
 
         pub fill-done : {t3 : List ℕ} → t3 ≡ afterUpdate d (8 + 16 * i) (be64 n ++ be64 o) t2 → Makes (fillSlot s new w d i) 0 o t3
-        unfolding withExtents
         fill-done {t3} e3 =
-            let r : 8 + 16 * i + length (be64 n ++ be64 o) ≤ length (blockAt (objectsFrom 2 filled) d .body) =
-            omega (arith, length-append (be64 n) (be64 o), length-be64 n, length-be64 o, directory-kept .1, slot-fits) in
-            let g : t3 ≡ image (withRoot s (setSlot d i n o filled)) = stage-image (stage-updated filled-stage d (8 + 16 * i) (be64 n ++ be64 o) still-there r e3) in
             let f : ℕ → ℕ → List ℕ = λ a b. image (withRoot s (setSlot d i a b (updated b 0 (parentField new d) 2 (updated a 0 w 2 (x .extents))))) in
+            let g : t3 ≡ f n o = open-image (store filled-open (8 + 16 * i) (be64 n ++ be64 o) (omega (arith, slot-length n o, v .slot)) e3) in
             let e : placePair (newName w) (newBlock new d) es
             ≡ some (record { name = x .name; object = x .object; extents = updated (x .object) 0 (parentField new d) 2 (updated (x .name) 0 w 2 (x .extents)) }) =
             ap (λ (b : Block). placePair b (newBlock new d) es) (sym (filled-name w))

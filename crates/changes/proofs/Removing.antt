@@ -7,23 +7,22 @@ use mathlib.Core.Option.{none, some}
 use mathlib.Core.Path.{_∙_, _≡_, ap, refl, subst, sym}
 use native.Mathlib.Omega.{arith}
 use lib.Dec.{eqb}
-use lib.ListN.{length, length-append}
+use lib.ListN.{length}
 use borrow.Author.Tests.{eqb-true}
 use Rattle.storage.specs.Bytes.{be64}
 use Rattle.storage.proofs.Booleans.{and-true}
-use Rattle.storage.proofs.Numbers.{AllBytes, length-be64}
+use Rattle.storage.proofs.Numbers.{AllBytes}
 use Rattle.alloc.specs.Block.{Block, SFde, SFna, SFre, sizeAt}
 use Rattle.alloc.specs.Room.{afterRelease, afterUpdate, released, withExtents}
 use Rattle.alloc.specs.Sound.{Holds}
 use Rattle.alloc.specs.Volume.{Extent, blockAt, image, objects, objectsFrom, volumeOf}
-use Rattle.alloc.proofs.Changes.{Renewed}
+use Rattle.alloc.proofs.Changes.{Renewed, renewed}
 use Rattle.alloc.proofs.Data.{found}
 use Rattle.alloc.proofs.Entries.{released-other}
-use Rattle.alloc.proofs.Filling.{updated-kept}
-use Rattle.alloc.proofs.Stages.{stage-holds, stage-image, stage-released, stage-size, stage-start, stage-updated}
+use Rattle.alloc.proofs.Stages.{stage-holds, stage-image, stage-released, stage-start}
 use Rattle.tree.specs.Fields.{Slot, isDir, isFile, slotAt, slots, taken, takenCount}
 use Rattle.tree.specs.WellFormed.{is-taken}
-use Rattle.tree.proofs.Formed.{Filled, dir-there, formed-dir, formed-sound, formed-taken}
+use Rattle.tree.proofs.Formed.{Filled, dir-there, file-there, formed-dir, formed-sound, formed-taken, name-there}
 use Rattle.tree.proofs.Indexed.{slots-other}
 use Rattle.calls.specs.Answers.{DirectoryIn}
 use Rattle.calls.specs.Reading.{blockIn}
@@ -31,6 +30,8 @@ use Rattle.calls.specs.Walk.{Start, lastName, reached, refused, slotNamed, star
 use Rattle.calls.proofs.Lowest.{found-slot}
 use Rattle.changes.specs.Answers.{Changes, TakenSlot}
 use Rattle.changes.specs.Changing.{remove, removeAt, removeIn, removed, setSlot}
+use Rattle.changes.proofs.Making.{slot-length}
+use Rattle.changes.proofs.Storing.{Open, store-at, store-other}
 
 -- ---- what holds something
 
@@ -50,83 +51,67 @@ module _ {s : List ℕ} (h : AllBytes s) {d i : ℕ} (k : TakenSlot s d i) where
   filled : Filled (objects (volumeOf s)) x
   filled = formed-taken s h (k .directory .formed) d (k .directory .kind) i (k .slot) (k .is-taken)
 
-  directory-there : 0 < blockAt (objectsFrom 2 es) d .magic
+  -- the objects that are written to and freed
+  open-at : (r : ℕ) → 0 < blockIn s r .magic → Open s r (length (blockIn s r .body)) es s
   unfolding objects
-  directory-there = dir-there (blockIn s d) (k .directory .kind)
+  open-at r p = record { renewed = stage-start (formed-sound s h (k .directory .formed)); there = p; size = refl }
 
-  slot-fits : 24 + 16 * i ≤ length (blockAt (objectsFrom 2 es) d .body)
-  unfolding objects
+  directory-open : Open s d (length (blockIn s d .body)) es s
+  directory-open = open-at d (dir-there (blockIn s d) (k .directory .kind))
+
+  slot-fits : 24 + 16 * i ≤ length (blockIn s d .body)
   slot-fits = omega (arith, formed-dir s h (k .directory .formed) d (k .directory .kind) .0, k .slot)
 
-  start-stage : Renewed s es s
-  start-stage = stage-start (formed-sound s h (k .directory .formed))
-
   pub clear-slot : Holds s d × (24 + 16 * i ≤ sizeAt s d)
-  clear-slot = (stage-holds start-stage d directory-there, omega (arith, stage-size start-stage d directory-there, slot-fits))
+  clear-slot = let q = store-at directory-open (8 + 16 * i) 16 (omega (arith, slot-fits)) in (q .0, omega (arith, q .1))
 
-  emptied-fits : 8 + 16 * i + length (be64 0 ++ be64 0) ≤ length (blockAt (objectsFrom 2 es) d .body)
-  emptied-fits = omega (arith, length-append (be64 0) (be64 0), length-be64 0, slot-fits)
-
-  abbrev emptied : List Extent
-  emptied = setSlot d i 0 0 es
-
-  -- the kinds stay
-  magic-kept : (r : ℕ) → blockAt (objectsFrom 2 emptied) r .magic ≡ blockIn s r .magic
-  unfolding objects
-  magic-kept r = updated-kept d (8 + 16 * i) (be64 0 ++ be64 0) es directory-there emptied-fits r .0
-
-  name-magic : blockAt (objectsFrom 2 emptied) (x .0) .magic ≡ SFna
-  name-magic = magic-kept (x .0) ∙ eqb-true (blockIn s (x .0) .magic) SFna (filled .is-name)
-
-  object-magic : (blockAt (objectsFrom 2 emptied) (x .1) .magic ≡ SFre) ⊎ (blockAt (objectsFrom 2 emptied) (x .1) .magic ≡ SFde)
-  object-magic = go (filled .kind)
+  object-there : 0 < blockIn s (x .1) .magic
+  object-there = go (filled .kind)
     where
-      go : (isFile (blockIn s (x .1)) ≡ true) ⊎ (isDir (blockIn s (x .1)) ≡ true)
-          → (blockAt (objectsFrom 2 emptied) (x .1) .magic ≡ SFre) ⊎ (blockAt (objectsFrom 2 emptied) (x .1) .magic ≡ SFde)
-      go (inl e) = inl (magic-kept (x .1) ∙ eqb-true (blockIn s (x .1) .magic) SFre e)
-      go (inr e) = inr (magic-kept (x .1) ∙ eqb-true (blockIn s (x .1) .magic) SFde e)
+      go : (isFile (blockIn s (x .1)) ≡ true) ⊎ (isDir (blockIn s (x .1)) ≡ true) → 0 < blockIn s (x .1) .magic
+      go (inl e) = file-there (blockIn s (x .1)) e
+      go (inr e) = dir-there (blockIn s (x .1)) e
 
-  name-there-it : 0 < blockAt (objectsFrom 2 emptied) (x .0) .magic
-  name-there-it = omega (arith, name-magic)
-
+  -- a name is no object
   apart : x .0 ≡ x .1 → ⊥
-  apart e = go object-magic
+  apart e = go (filled .kind)
     where
-      same-magic : blockAt (objectsFrom 2 emptied) (x .1) .magic ≡ SFna
-      same-magic = ap (λ (r : ℕ). blockAt (objectsFrom 2 emptied) r .magic) (sym e) ∙ name-magic
+      name-magic : blockIn s (x .1) .magic ≡ SFna
+      name-magic = ap (λ (r : ℕ). blockIn s r .magic) (sym e) ∙ eqb-true (blockIn s (x .0) .magic) SFna (filled .is-name)
 
-      go : (blockAt (objectsFrom 2 emptied) (x .1) .magic ≡ SFre) ⊎ (blockAt (objectsFrom 2 emptied) (x .1) .magic ≡ SFde) → ⊥
-      go (inl f) = omega (arith, same-magic)
-      go (inr f) = omega (arith, same-magic)
+      go : (isFile (blockIn s (x .1)) ≡ true) ⊎ (isDir (blockIn s (x .1)) ≡ true) → ⊥
+      go (inl f) = omega (arith, name-magic, eqb-true (blockIn s (x .1) .magic) SFre f)
+      go (inr f) = omega (arith, name-magic, eqb-true (blockIn s (x .1) .magic) SFde f)
 
-  object-there : 0 < blockAt (objectsFrom 2 (released (x .0) emptied)) (x .1) .magic
-  object-there = go object-magic
-    where
-      kept : blockAt (objectsFrom 2 (released (x .0) emptied)) (x .1) ≡ blockAt (objectsFrom 2 emptied) (x .1)
-      kept = released-other (x .0) _ emptied (found 2 (x .0) emptied name-there-it) (x .1) apart
+  module _ {y : Slot} (q : y ≡ x) {t1 : List ℕ} (e1 : t1 ≡ afterUpdate d (8 + 16 * i) (be64 0 ++ be64 0) s) where
+    abbrev emptied : List Extent
+    emptied = setSlot d i 0 0 es
 
-      go : (blockAt (objectsFrom 2 emptied) (x .1) .magic ≡ SFre) ⊎ (blockAt (objectsFrom 2 emptied) (x .1) .magic ≡ SFde)
-          → 0 < blockAt (objectsFrom 2 (released (x .0) emptied)) (x .1) .magic
-      go (inl f) = omega (arith, ap (λ (b : Block). b .magic) kept)
-      go (inr f) = omega (arith, ap (λ (b : Block). b .magic) kept)
+    -- one object, after the slot is empty
+    after-slot : {r m : ℕ} → Open s r m es s → Open s r m emptied t1
+    after-slot = store-other directory-open (8 + 16 * i) (be64 0 ++ be64 0) (omega (arith, slot-length 0 0, slot-fits)) e1
 
-  module _ {y : Slot} (r : y ≡ x) {t1 : List ℕ} (e1 : t1 ≡ afterUpdate d (8 + 16 * i) (be64 0 ++ be64 0) s) where
-    emptied-stage : Renewed s emptied t1
-    emptied-stage = stage-updated start-stage d (8 + 16 * i) (be64 0 ++ be64 0) directory-there emptied-fits e1
+    name-open : Open s (x .0) (length (blockIn s (x .0) .body)) emptied t1
+    name-open = after-slot (open-at (x .0) (name-there (blockIn s (x .0)) (filled .is-name)))
 
     pub clear-name : Holds t1 (y .0)
-    clear-name = subst (λ (z : Slot). Holds t1 (z .0)) (sym r) (stage-holds emptied-stage (x .0) name-there-it)
+    clear-name = subst (λ (z : Slot). Holds t1 (z .0)) (sym q) (stage-holds (name-open .renewed) (x .0) (name-open .there))
+
+    object-left : 0 < blockAt (objectsFrom 2 (released (x .0) emptied)) (x .1) .magic
+    object-left =
+        subst (λ (b : Block). 0 < b .magic) (sym (released-other (x .0) _ emptied (found 2 (x .0) emptied (name-open .there)) (x .1) apart))
+        (after-slot (open-at (x .1) object-there) .there)
 
     module _ {t2 : List ℕ} (e2 : t2 ≡ afterRelease (y .0) t1) where
       freed-stage : Renewed s (released (x .0) emptied) t2
-      freed-stage = stage-released emptied-stage (x .0) name-there-it (e2 ∙ ap (λ (z : Slot). afterRelease (z .0) t1) r)
+      freed-stage = stage-released (name-open .renewed) (x .0) (name-open .there) (e2 ∙ ap (λ (z : Slot). afterRelease (z .0) t1) q)
 
       pub clear-object : Holds t2 (y .1)
-      clear-object = subst (λ (z : Slot). Holds t2 (z .1)) (sym r) (stage-holds freed-stage (x .1) object-there)
+      clear-object = subst (λ (z : Slot). Holds t2 (z .1)) (sym q) (stage-holds freed-stage (x .1) object-left)
 
       pub clear-done : {t3 : List ℕ} → t3 ≡ afterRelease (y .1) t2 → t3 ≡ image (removed s d i)
       unfolding withExtents
-      clear-done {t3} e3 = stage-image (stage-released freed-stage (x .1) object-there (e3 ∙ ap (λ (z : Slot). afterRelease (z .1) t2) r))
+      clear-done {t3} e3 = stage-image (stage-released freed-stage (x .1) object-left (e3 ∙ ap (λ (z : Slot). afterRelease (z .1) t2) q))
 
 -- ---- from a directory
 

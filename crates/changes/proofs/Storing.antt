@@ -10,11 +10,13 @@ use Rattle.storage.specs.Bytes.{be64, u64At, zeroed}
 use Rattle.storage.proofs.Numbers.{AllBytes, length-be64}
 use Rattle.alloc.specs.Block.{Block, blockOf, sizeAt}
 use Rattle.alloc.specs.Room.{afterUpdate, updated, withExtents}
-use Rattle.alloc.specs.Sound.{Holds}
+use Rattle.alloc.specs.Sound.{Holds, Sound}
 use Rattle.alloc.specs.Volume.{Extent, blockAt, image, objects, objectsFrom, volumeOf}
 use Rattle.alloc.proofs.Changes.{Renewed}
+use Rattle.alloc.proofs.Cuts.{length-parts}
 use Rattle.alloc.proofs.Entries.{placed-here}
-use Rattle.alloc.proofs.Filling.{updated-append, updated-kept}
+use Rattle.alloc.proofs.Filling.{updated-append, updated-kept, updated-none}
+use Rattle.alloc.proofs.Held.{holds-size, holds-stands}
 use Rattle.alloc.proofs.Placing.{fit}
 use Rattle.alloc.proofs.Releasing.{length-zeroed}
 use Rattle.alloc.proofs.Stages.{PlacedIn, stage-holds, stage-image, stage-size, stage-start, stage-updated}
@@ -43,6 +45,11 @@ open-placed {s} {es} {b} {r} {t} p m l =
     ap (blockAt (objectsFrom 2 (p .placed .extents))) (sym (p .ref)) ∙ placed-here b es (p .placed) (fit b 2 es (p .placed) (p .places)) in
     record { renewed = p .renewed; there = subst (λ (c : Block). 0 < c .magic) (sym e) m; size = ap (λ (c : Block). length (c .body)) e ∙ l }
 
+-- an object that holds its place
+pub open-held : {s : List ℕ} {r : ℕ} → Holds s r → Open s r (sizeAt s r) (volumeOf s .extents) s
+unfolding objects
+open-held k = record { renewed = stage-start (k .sound); there = k .there; size = sym (holds-size k) }
+
 -- a file
 pub open-file : {s : List ℕ} → AllBytes s → {r : ℕ} → FileIn s r → Open s r (room (blockIn s r) + 16) (volumeOf s .extents) s
 unfolding objects
@@ -66,15 +73,27 @@ module _ {s : List ℕ} {r n : ℕ} {es : List Extent} {t : List ℕ} (o : Open 
     inside : p + length x ≤ length (blockAt (objectsFrom 2 es) r .body)
     inside = omega (arith, o .size)
 
-    -- the stage after it
-    pub store : {u : List ℕ} → u ≡ afterUpdate r p x t → Open s r n (updated r p x 2 es) u
-    store e =
-        let k = updated-kept r p x es (o .there) inside r in
+    -- the stage after it, of every object
+    pub store-other : {u : List ℕ} → u ≡ afterUpdate r p x t → {q m : ℕ} → Open s q m es t → Open s q m (updated r p x 2 es) u
+    store-other e {q} w =
+        let k = updated-kept r p x es (o .there) inside q in
         record {
           renewed = stage-updated (o .renewed) r p x (o .there) inside e;
-          there = subst (λ (m : ℕ). 0 < m) (sym (k .0)) (o .there);
-          size = k .1 ∙ o .size;
+          there = subst (λ (i : ℕ). 0 < i) (sym (k .0)) (w .there);
+          size = k .1 ∙ w .size;
         }
+
+    pub store : {u : List ℕ} → u ≡ afterUpdate r p x t → Open s r n (updated r p x 2 es) u
+    store e = store-other e o
+
+-- no bytes stored change nothing
+pub store-none : {s : List ℕ} → Sound s → (r p : ℕ) → s ≡ afterUpdate r p [] s
+unfolding afterUpdate withExtents
+store-none {s} k r p = sym (k .rendered) ∙ ap (λ (es : List Extent). image (withRoot s es)) (sym (updated-none r p 2 (volumeOf s .extents)))
+
+-- an object is no larger than the image
+pub held-low : {s : List ℕ} {r : ℕ} → Holds s r → sizeAt s r < 18446744073709551616
+held-low {s} k = omega (arith, holds-stands k .standing .fits, length-parts (length s) (k .sound .volume .allowed))
 
 -- two stores that touch
 pub store-both : {s : List ℕ} {r n : ℕ} {es : List Extent} {t : List ℕ} → Open s r n es t → (p : ℕ) (x : List ℕ) {q : ℕ} (y : List ℕ) → p + length x ≡ q → q + length y ≤ n

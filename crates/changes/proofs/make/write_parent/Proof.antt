@@ -10,7 +10,7 @@ use Rattle.storage.proofs.Numbers.{length-be64}
 use Rattle.alloc.specs.Room.{afterUpdate}
 use Rattle.changes.specs.Answers.{newOf}
 use Rattle.changes.proofs.Making.{parent-directory, parent-file}
-use Rattle.changes.proofs.Writes.{write-none}
+use Rattle.changes.proofs.Storing.{store-none}
 use Rattle.changes.proofs.make.write_parent.Statement.{statement}
 
 enum-told : tie.Need-enum-told
@@ -29,7 +29,7 @@ returns : tie.Need-returns
 returns c = c .before .before .write-ref .ensures ∙ ap (λ (x : List ℕ). afterUpdate (c .before .before .before .before .before .before .before .args .o .0) 0 x (c .before .before .before .before .before .before .before .args .image .now)) (parent-directory _ _ _ (ap newOf (c .before .before .before .before .enum-told .given .1)))
 
 returns-2 : tie.Need-returns-2
-returns-2 c = write-none (c .before .before .before .pre .0 .sound) _ _ ∙ ap (λ (x : List ℕ). afterUpdate (c .before .before .before .args .o .0) 0 x (c .before .before .before .args .image .now)) (parent-file _ _ _ (ap newOf (c .enum-told2 .given .1)))
+returns-2 c = store-none (c .before .before .before .pre .0 .sound) _ _ ∙ ap (λ (x : List ℕ). afterUpdate (c .before .before .before .args .o .0) 0 x (c .before .before .before .args .image .now)) (parent-file _ _ _ (ap newOf (c .enum-told2 .given .1)))
 
 pub write-parent-spec : {M : Type 1} → statement M
 write-parent-spec =
