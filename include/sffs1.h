@@ -2,7 +2,7 @@
 
    Every call answers for every image, path and number: nothing need be checked before. It returns 0 where it is
    accepted, or the number of its refusal (README.md). A refusal sets every lent number to 0 and changes no
-   byte of a buffer. Lent numbers, buffers and images must not overlap. */
+   byte of a buffer or of the image. Lent numbers, buffers and images must not overlap. */
 
 #ifndef SFFS1_H
 #define SFFS1_H
@@ -30,6 +30,28 @@ uint8_t sffs1_read(const uint8_t *image, size_t image_len, const uint8_t *path, 
 /* Point `number`, from 1 to 4096, of a file: 16 bytes, never a part of a point. Zeros on a refusal. */
 uint8_t sffs1_read_point(const uint8_t *image, size_t image_len, const uint8_t *path, size_t path_len,
                          uint64_t number, uint8_t point[16]);
+
+/* A new image, whatever its bytes were: a root directory with so many slots (1 to 1,024) at ref 2, the rest free. */
+uint8_t sffs1_format(uint8_t *image, size_t image_len, uint64_t slots);
+
+/* A new directory with so many empty slots (1 to 1,024), in the lowest empty slot of the directory above it. Tells its ref. */
+uint8_t sffs1_make_directory(uint8_t *image, size_t image_len, const uint8_t *path, size_t path_len,
+                             uint64_t slots, uint64_t *ref);
+
+/* A new file of size 0 with so much room (0 to 65,536 bytes), likewise. */
+uint8_t sffs1_make_file(uint8_t *image, size_t image_len, const uint8_t *path, size_t path_len,
+                        uint64_t room, uint64_t *ref);
+
+/* Bytes of a file from the position on; a gap after the old end becomes zeros. The position is any number: 12 where
+   the end would lie past the room. */
+uint8_t sffs1_write(uint8_t *image, size_t image_len, const uint8_t *path, size_t path_len,
+                    uint64_t position, const uint8_t *bytes, size_t bytes_len);
+
+/* The file cut off at this length, or lengthened by zeros. */
+uint8_t sffs1_set_length(uint8_t *image, size_t image_len, const uint8_t *path, size_t path_len, uint64_t length);
+
+/* The file, or the directory that holds nothing, is gone, and its room is free again. */
+uint8_t sffs1_remove(uint8_t *image, size_t image_len, const uint8_t *path, size_t path_len);
 
 #ifdef __cplusplus
 }
