@@ -1,3 +1,5 @@
 pub mod Sums
 pub mod Nodes
 pub mod Good
+pub mod Refs
+pub mod Walks
