@@ -3,3 +3,4 @@ pub mod Nodes
 pub mod Good
 pub mod Refs
 pub mod Walks
+pub mod Counting
