@@ -1,5 +1,4 @@
 -- Every block but the root is named by one slot: so a sum over the objects is the root's term and the sum of what the slots name.
-use Rattle.tree.proofs.Formed as formed
 use Prim.Native.Nat.{_*_, _+_, _<_, _≤_, suc, ℕ}
 use mathlib.Core.Bool.{Bool, _||_, cond, false, false≢true, true}
 use mathlib.Core.List.{List, [], _∷_}
@@ -17,6 +16,7 @@ use Rattle.tree.specs.Verdict.{rule3, rule4}
 use Rattle.tree.specs.WellFormed.{Every, EveryObject, Keeps, SlotStands, is-empty, is-taken}
 use Rattle.tree.proofs.BlockRules.{keeps-tested}
 use Rattle.tree.proofs.Breakers.{every-map}
+use Rattle.tree.proofs.Formed as formed
 use Rattle.tree.proofs.Indexed.{slots-every}
 use Rattle.tree.proofs.Namings.{Rises}
 use Rattle.history.proofs.Refs.{times-below, times-once}

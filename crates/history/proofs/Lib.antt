@@ -4,3 +4,5 @@ pub mod Good
 pub mod Refs
 pub mod Walks
 pub mod Counting
+pub mod Levels
+pub mod Trees
