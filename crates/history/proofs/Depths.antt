@@ -15,8 +15,8 @@ use Rattle.tree.proofs.BlockRules.{keeps-tested}
 use Rattle.tree.proofs.Indexed.{every-slots, none-taken}
 use Rattle.tree.proofs.Namings.{Rises}
 use Rattle.history.proofs.Nodes.{Among, Node, Rep, Stands, dir, empty, end, file, height, slotsOf}
-use Rattle.history.proofs.Tested.{all-good, file-no-dir, name-no-dir}
-use Rattle.history.proofs.Walks.{file-there, of-dir}
+use Rattle.history.proofs.Tested.{all-good, name-no-dir}
+use Rattle.history.proofs.Walks.{file-not, file-there, of-dir}
 
 -- a row at this depth below the root, and what is taken of it
 none-below : (c : Node) → height c ≤ 0 → takenCount (slotsOf c) ≡ 0
@@ -72,7 +72,7 @@ module _ {os : Objects} (rises : Rises 2 os) {root : ℕ} {rb : Block} {top : No
   depths-kept =
       all-good os (q .once) (keeps rule5 os root) (Deep os root)
       (λ n a i h. no-depth n a (name-no-dir a (h .isName)))
-      (λ r b i h. no-depth r b (file-no-dir b (h .isFile)))
+      (λ r b i h. no-depth r b (file-not b (h .isFile)))
       (λ up t k. record { depth = k .depth; climbs = k .climbs; shallow = k .shallow })
       (λ up n o a b t k. record { depth = k .depth; climbs = k .climbs; shallow = omega (arith, k .shallow) })
       (λ up n o a b c t k. record { depth = k .depth; climbs = k .climbs; shallow = omega (arith, k .shallow) })

@@ -18,8 +18,8 @@ use Rattle.history.proofs.Depths.{depths-kept}
 use Rattle.history.proofs.Good.{Good}
 use Rattle.history.proofs.Naming.{naming-kept}
 use Rattle.history.proofs.Nodes.{Among, Node, Rep, Stands, dir, empty, end, file, named, slotsOf}
-use Rattle.history.proofs.Tested.{Nothing, all-good, dir-no-file, dir-no-name, file-no-dir, file-no-name, name-no-dir, name-no-file}
-use Rattle.history.proofs.Walks.{among-top, file-there, name-there, of-dir, rest-of, root-there, row-of, taken-some}
+use Rattle.history.proofs.Tested.{Nothing, all-good, dir-no-file, dir-no-name, file-no-name, name-no-dir, name-no-file}
+use Rattle.history.proofs.Walks.{among-top, file-not, file-there, name-there, of-dir, rest-of, root-there, row-of, taken-some}
 
 module _ {os : Objects} {root : ℕ} {rb : Block} {top : Node} (q : Rep os root rb top) where
   -- ---- rule 2
@@ -62,7 +62,7 @@ module _ {os : Objects} {root : ℕ} {rb : Block} {top : Node} (q : Rep os root 
   slots-kept =
       all-good os (q .once) (keeps rule3 os root) Nothing
       (λ n a i h. rw (slots-other a (name-no-dir a (h .isName))))
-      (λ r b i h. rw (slots-other b (file-no-dir b (h .isFile))))
+      (λ r b i h. rw (slots-other b (file-not b (h .isFile))))
       (λ up t k. tt) (λ up n r a b t k. tt) (λ up n r a b c t k. tt)
       (λ up n r a b c t i s h k. (rw (s .1 .slots) (slots-stand r c (s .3) (row-of os (q .once) n r a b c t h)), tt))
       root rb top q (rw (q .top .slots) (slots-stand root top (q .row) (among-top os root rb top q))) tt
@@ -96,7 +96,7 @@ module _ {os : Objects} {root : ℕ} {rb : Block} {top : Node} (q : Rep os root 
   names-kept =
       all-good os (q .once) (namesStand os) Nothing
       (λ n a i h. rw (h .isName, h .valid, slots-other a (name-no-dir a (h .isName))))
-      (λ r b i h. rw (file-no-name b (h .isFile), slots-other b (file-no-dir b (h .isFile))))
+      (λ r b i h. rw (file-no-name b (h .isFile), slots-other b (file-not b (h .isFile))))
       (λ up t k. tt) (λ up n r a b t k. tt) (λ up n r a b c t k. tt)
       (λ up n r a b c t i s h k.
         (rw (dir-no-name b (s .1 .isDir), s .1 .slots) (all-distinct r c (s .3) (row-of os (q .once) n r a b c t h)), tt))

@@ -1,8 +1,13 @@
 pub mod Sums
 pub mod Nodes
 pub mod Good
+pub mod Refs
 pub mod Walks
 pub mod Tested
 pub mod Naming
 pub mod Depths
 pub mod Holds
+pub mod Lines
+pub mod Units
+pub mod Owning
+pub mod Paths

@@ -22,9 +22,6 @@ name-no-dir b h = rw (eqb-true (b .magic) _ h)
 pub name-no-file : (b : Block) → isName b ≡ true → isFile b ≡ false
 name-no-file b h = rw (eqb-true (b .magic) _ h)
 
-pub file-no-dir : (b : Block) → isFile b ≡ true → isDir b ≡ false
-file-no-dir b h = rw (eqb-true (b .magic) _ h)
-
 pub file-no-name : (b : Block) → isFile b ≡ true → isName b ≡ false
 file-no-name b h = rw (eqb-true (b .magic) _ h)
 
