@@ -11,3 +11,4 @@ pub mod Lines
 pub mod Units
 pub mod Owning
 pub mod Paths
+pub mod Shown
