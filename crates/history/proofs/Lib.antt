@@ -12,3 +12,5 @@ pub mod Units
 pub mod Owning
 pub mod Paths
 pub mod Shown
+pub mod Answering
+pub mod Claims
