@@ -29,13 +29,16 @@ module _ {n : ℕ} {s : List ℕ} {t : Tree} (g : Good n s t) where
   -- ---- how a call on such a path begins
 
   module _ {p : List ℕ} {ws : List (List ℕ)} (w : Way p ws) where
+    -- it reaches what the tree has there
     begins : (allowed : Bool) → allowed ≡ true → {r : ℕ} → whereTo ws ≡ at r → start s p allowed ≡ reached r
     unfolding start
     begins allowed a e =
-        sym (or-passed (opening s p allowed) (walkFrom s (components p)) (opening-none s p allowed (good-formed n s t g) (way-valid w) a) refl)
+        let o = opening-none s p allowed (good-formed n s t g) (way-valid w) a in
+        sym (or-passed (opening s p allowed) (walkFrom s (components p)) o refl)
         ∙ ap (walkFrom s) (way-components w)
         ∙ ap walked (walk-is (objects (volumeOf s)) (volumeOf s .root) (g .block) (g .node) (g .rep) ws ∙ e)
 
+    -- numbers that are not allowed
     begins-not : (allowed : Bool) → allowed ≡ false → start s p allowed ≡ refused 10
     unfolding start
     begins-not allowed a =
@@ -44,6 +47,7 @@ module _ {n : ℕ} {s : List ℕ} {t : Tree} (g : Good n s t) where
 
     -- ---- find
 
+    -- the ref and the kind of what is there
     finds : {r : ℕ} → whereTo ws ≡ at r → find s p ≡ record { refusal = 0; at = r; kind = kindOf (blockIn s r) }
     unfolding find
     finds e = ap (foundAt s) (begins true refl e)
@@ -51,10 +55,12 @@ module _ {n : ℕ} {s : List ℕ} {t : Tree} (g : Good n s t) where
     -- ---- read and read point, on a file with the bytes x
 
     module _ {r : ℕ} (e : whereTo ws ≡ at r) {x : List ℕ} (h : HasBytes (blockIn s r) x) where
+      -- its bytes from the position on
       pub reads : (position : ℕ) (buffer : List ℕ) → read s p position buffer ≡ copied buffer (take (length buffer) (drop position x))
       unfolding read
       reads position buffer = ap (readAt s position buffer) (begins true refl e) ∙ rw (h .isFile, h .content)
 
+      -- its points
       pub reads-point : (number : ℕ) → readPoint s p number ≡ pointOn x number
       unfolding readPoint
       reads-point number = go (within 1 4096 number) refl

@@ -23,14 +23,18 @@ use Rattle.history.proofs.Units.{owned-append, owned-listing}
 
 -- ---- two lists one by one
 
+-- as many
 each-length : {A B : Type 0} {R : A → B → Type 0} {xs : List A} {ys : List B} → Each R xs ys → length xs ≡ length ys
 each-length neither = refl
 each-length (both r e) = ap suc (each-length e)
 
-each-map : {A B : Type 0} {R S : A → B → Type 0} {xs : List A} {ys : List B} → ((a : A) (b : B) → R a b → S a b) → Each R xs ys → Each S xs ys
+-- another relation
+each-map : {A B : Type 0} {R S : A → B → Type 0} {xs : List A} {ys : List B} → ((a : A) (b : B) → R a b → S a b) → Each R xs ys
+    → Each S xs ys
 each-map f neither = neither
 each-map f (both {a = a} {b = b} r e) = both (f a b r) (each-map f e)
 
+-- the partner of a member
 each-member : {A B : Type 0} {R : A → B → Type 0} {xs : List A} {ys : List B} (b : B) → Each R xs ys → List·Memᴰ b ys → (a : A) × R a b
 each-member b neither m = absurd (List·Memᴰ·not-nil m)
 each-member {A} {B} {R} b (both {a = a} {b = c} {ys = ys} r e) m = go (List·Memᴰ·cases-cons m) (each-member b e)
@@ -55,14 +59,18 @@ module _ (n : ℕ) (s : List ℕ) (t : Tree) (g : Good n s t) where
   unfolding linesOf
   lines-are = refl
 
+  -- the lines match the entries
   matched : Each (Matches os root (g .block) (g .node)) lines (entries t)
   matched = rw (lines-are, ← g .book) (listing-matches os root (g .block) (g .node) (g .rep))
 
+  -- as many
   as-many : length lines ≡ length (entries t)
   as-many = each-length matched
 
   module _ (lent : List Line) where
-    listed-long : length (entries t) ≤ length lent → list s lent ≡ record { refusal = 0; count = length lines; lines = lines ++ drop (length lines) lent }
+    -- lent enough lines, or one too few
+    listed-long : length (entries t) ≤ length lent
+        → list s lent ≡ record { refusal = 0; count = length lines; lines = lines ++ drop (length lines) lent }
     unfolding list
     listed-long h = rw (list, good-formed n s t g, le-leb (length lines) (length lent) (omega (arith, as-many)))
 
@@ -70,6 +78,7 @@ module _ (n : ℕ) (s : List ℕ) (t : Tree) (g : Good n s t) where
     unfolding list
     listed-short h = rw (list, good-formed n s t g, lt-leb (length lines) (length lent) (omega (arith, as-many)))
 
+    -- the count either way
     count-is : list s lent .count ≡ length (entries t)
     count-is = go (leb (length (entries t)) (length lent)) refl
       where
@@ -77,6 +86,7 @@ module _ (n : ℕ) (s : List ℕ) (t : Tree) (g : Good n s t) where
         go true e = ap (λ (l : Listed). l .count) (listed-long (leb-true (length (entries t)) (length lent) e)) ∙ as-many
         go false e = ap (λ (l : Listed). l .count) (listed-short (leb-false (length (entries t)) (length lent) e)) ∙ as-many
 
+    -- the lines that were set
     front-is : length (entries t) ≤ length lent → take (length (entries t)) (list s lent .lines) ≡ lines
     front-is h = rw (listed-long h, ← as-many) (take-append-seam lines (drop (length lines) lent))
 
@@ -86,6 +96,7 @@ module _ (n : ℕ) (s : List ℕ) (t : Tree) (g : Good n s t) where
   unfolding owners
   owners-are ls = refl
 
+  -- every unit has one owner
   one-owner : (u : ℕ) → 16 * u < length s → owned u (owners s lines) ≡ 1
   unfolding owned
   one-owner u h =

@@ -18,7 +18,7 @@ use Rattle.history.proofs.Nodes.{Among, Node, Rep, Stands, dir, empty, 
 use Rattle.history.proofs.Tested.{all-good, name-no-dir}
 use Rattle.history.proofs.Walks.{file-not, file-there, of-dir}
 
--- a row at this depth below the root, and what is taken of it
+-- a row of height 0 has nothing in it
 none-below : (c : Node) → height c ≤ 0 → takenCount (slotsOf c) ≡ 0
 unfolding takenCount
 none-below end h = refl
@@ -26,6 +26,7 @@ none-below (empty t) h = none-below t h
 none-below (file n r a b t) h = absurd (omega arith)
 none-below (dir n r a b c t) h = absurd (omega arith)
 
+-- so a directory that holds something is at depth 15 at most
 holds-low : (d : ℕ) (b : Block) (c : Node) → isDir b ≡ true → slots b ≡ slotsOf c → d + height c ≤ 16
     → (i : ℕ) → i < total b → taken (slotAt b i) ≡ true → d ≤ 15
 holds-low d b c k e l i m t = go (leb d 15) refl
@@ -43,6 +44,7 @@ record Deep (os : Objects) (root up : ℕ) (c : Node) : Type 0 where
   shallow : depth + height c ≤ 16
 
 module _ {os : Objects} (rises : Rises 2 os) {root : ℕ} {rb : Block} {top : Node} (q : Rep os root rb top) where
+  -- the rule, of a directory
   depth-kept : (r : ℕ) (b : Block) (c : Node) → isDir b ≡ true → slots b ≡ slotsOf c → Deep os root r c → keeps rule5 os root r b ≡ true
   depth-kept r b c k e d =
       keeps-tested os rises root rule5 r b (λ _. record {
@@ -52,9 +54,11 @@ module _ {os : Objects} (rises : Rises 2 os) {root : ℕ} {rb : Block} {top : No
         holder = holds-low (d .depth) b c k e (d .shallow);
       })
 
+  -- and of what is none
   no-depth : (r : ℕ) (b : Block) → isDir b ≡ false → keeps rule5 os root r b ≡ true
   no-depth r b h = keeps-tested os rises root rule5 r b (λ e. absurd (false≢true (sym h ∙ e)))
 
+  -- one step more
   deep-dir : (up n r : ℕ) (a b : Block) (c t : Node) → Stands up (dir n r a b c t) → Among os (dir n r a b c t)
       → Deep os root up (dir n r a b c t) → Deep os root r c
   deep-dir up n r a b c t s h k =
@@ -65,9 +69,11 @@ module _ {os : Objects} (rises : Rises 2 os) {root : ℕ} {rb : Block} {top : No
         shallow = omega (arith, k .shallow);
       }
 
+  -- the root
   deep-top : Deep os root root top
   deep-top = record { depth = 0; climbs = refl; shallow = omega (arith, q .low) }
 
+  -- rule 5
   pub depths-kept : breakerOf rule5 os root ≡ none
   depths-kept =
       all-good os (q .once) (keeps rule5 os root) (Deep os root)

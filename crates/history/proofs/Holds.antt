@@ -30,6 +30,7 @@ module _ {os : Objects} {root : ℕ} {rb : Block} {top : Node} (q : Rep os root 
 
   -- ---- rule 3
 
+  -- the slots of a row stand
   slots-stand : (up : ℕ) (c : Node) → Stands up c → Among os c → slotsStand os (slotsOf c) ≡ true
   unfolding slotsStand
   slots-stand up end s h = refl
@@ -69,6 +70,7 @@ module _ {os : Objects} {root : ℕ} {rb : Block} {top : Node} (q : Rep os root 
 
   -- ---- rule 6
 
+  -- a name is in the slots where it is in the row
   name-in : (w : List ℕ) (up : ℕ) (c : Node) → Stands up c → Among os c → nameIn os w (slotsOf c) ≡ named w c
   unfolding nameIn
   name-in w up end s h = refl
@@ -79,17 +81,20 @@ module _ {os : Objects} {root : ℕ} {rb : Block} {top : Node} (q : Rep os root 
       let k = of-dir os (q .once) n r a b c t h in
       rw (taken-some n r (s .1 .some), name-there os (q .once) n r a b t k, name-in w up t (s .4) (rest-of os (q .once) n r a b t k))
 
+  -- no two slots of a row have one name
   all-distinct : (up : ℕ) (c : Node) → Stands up c → Among os c → distinct os (slotsOf c) ≡ true
   unfolding distinct
   all-distinct up end s h = refl
   all-distinct up (empty t) s h = all-distinct up t s h
   all-distinct up (file n r a b t) s h =
       let i = rest-of os (q .once) n r a b t h in
-      rw (taken-some n r (s .1 .some), name-there os (q .once) n r a b t h, name-in (a .body) up t (s .3) i, s .2) (all-distinct up t (s .3) i)
+      rw (taken-some n r (s .1 .some), name-there os (q .once) n r a b t h, name-in (a .body) up t (s .3) i, s .2)
+      (all-distinct up t (s .3) i)
   all-distinct up (dir n r a b c t) s h =
       let k = of-dir os (q .once) n r a b c t h in
       let i = rest-of os (q .once) n r a b t k in
-      rw (taken-some n r (s .1 .some), name-there os (q .once) n r a b t k, name-in (a .body) up t (s .4) i, s .2) (all-distinct up t (s .4) i)
+      rw (taken-some n r (s .1 .some), name-there os (q .once) n r a b t k, name-in (a .body) up t (s .4) i, s .2)
+      (all-distinct up t (s .4) i)
 
   names-kept : breakerOf rule6 os root ≡ none
   unfolding namesStand distinct

@@ -11,6 +11,7 @@ pub mod Lines
 pub mod Units
 pub mod Owning
 pub mod Paths
+pub mod Counts
 pub mod Shown
 pub mod Answering
 pub mod Claims

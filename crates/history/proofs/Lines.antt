@@ -20,22 +20,26 @@ rowLines up d (empty t) = rowLines up d t
 rowLines up d (file n r a b t) = lineOf r up n d b ∷ rowLines up d t
 rowLines up d (dir n r a b c t) = lineOf r up n d b ∷ (rowLines r (suc d) c ++ rowLines up d t)
 
+-- a row of height 0 has no lines
 low-row : (up d : ℕ) (c : Node) → height c ≤ 0 → rowLines up d c ≡ []
 low-row up d end h = refl
 low-row up d (empty t) h = low-row up d t h
 low-row up d (file n r a b t) h = absurd (omega arith)
 low-row up d (dir n r a b c t) h = absurd (omega arith)
 
+-- the lines of an object: its own, and with a level more those of its slots
 lines-none : (os : Objects) (r up n d : ℕ) → objectLines 0 os r up n d ≡ lineOf r up n d (blockAt os r) ∷ []
 unfolding objectLines
 lines-none os r up n d = refl
 
 lines-more : (k : ℕ) (os : Objects) (r up n d : ℕ)
-    → objectLines (suc k) os r up n d ≡ lineOf r up n d (blockAt os r) ∷ slotLines (λ m o. objectLines k os o r m (suc d)) (slots (blockAt os r))
+    → objectLines (suc k) os r up n d
+      ≡ lineOf r up n d (blockAt os r) ∷ slotLines (λ m o. objectLines k os o r m (suc d)) (slots (blockAt os r))
 unfolding objectLines
 lines-more k os r up n d = refl
 
 module _ (os : Objects) (once : (r : ℕ) → times r os ≤ 1) where
+  -- a file has its own line alone
   file-lines : (k r up n d : ℕ) (b : Block) → blockAt os r ≡ b → isFile b ≡ true → objectLines k os r up n d ≡ lineOf r up n d b ∷ []
   unfolding slotLines
   file-lines zero r up n d b e h = rw (lines-none, e)
@@ -55,7 +59,8 @@ module _ (os : Objects) (once : (r : ℕ) → times r os ≤ 1) where
       (ap (λ (x : List Line). lineOf r up n d b ∷ x) (row-lines k up d ih t (s .3) (rest-of os once n r a b t h) (omega arith)))
   row-lines k up d ih (dir n r a b c t) s h l =
       let h′ = of-dir os once n r a b c t h in
-      rw (taken-some n r (s .1 .some), ih r n b c (file-there os once n r a b t h′) (s .1) (s .3) (row-of os once n r a b c t h) (omega arith))
+      let i = ih r n b c (file-there os once n r a b t h′) (s .1) (s .3) (row-of os once n r a b c t h) (omega arith) in
+      rw (taken-some n r (s .1 .some), i)
       (ap (λ (x : List Line). lineOf r up n d b ∷ (rowLines r (suc d) c ++ x))
       (row-lines k up d ih t (s .4) (rest-of os once n r a b t h′) (omega arith)))
 

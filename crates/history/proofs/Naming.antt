@@ -22,15 +22,18 @@ use Rattle.history.proofs.Walks.{file-not, file-there, of-dir, root-the
 abbrev named-by : ℕ → Item → ℕ
 named-by r o = namings r (slots (o .1))
 
+-- the namings in all
 all-sum : (r : ℕ) (xs : Objects) → allNamings r xs ≡ sum (named-by r) xs
 unfolding allNamings
 all-sum r [] = refl
 all-sum r (x ∷ xs) = omega (arith, all-sum r xs)
 
+-- what is no directory names nothing
 nothing-named : (r : ℕ) (b : Block) → isDir b ≡ false → namings r (slots b) ≡ 0
 unfolding namings
 nothing-named r b h = rw (slots-other b h)
 
+-- one slot more
 naming-step : (r n o : ℕ) (ss : List Slot) → namings r ss ≤ namings r ((n, o) ∷ ss)
 unfolding namings
 naming-step r n o ss = go (eqb n r || eqb o r)
@@ -39,12 +42,14 @@ naming-step r n o ss = go (eqb n r || eqb o r)
     go true = omega arith
     go false = omega arith
 
+-- a slot names its object
 naming-self : (n r : ℕ) (ss : List Slot) → 1 ≤ namings r ((n, r) ∷ ss)
 unfolding namings
 naming-self n r ss = rw (eq-eqb r r refl, or-true (eqb n r)) (omega arith)
 
 -- a slot that names n and o, where r is at most one of them
-slot-names : (x y : Bool) (k : ℕ) → cond {A = ℕ} x 1 0 + cond {A = ℕ} y 1 0 ≤ 1 → cond (x || y) (suc k) k ≡ cond {A = ℕ} x 1 0 + cond {A = ℕ} y 1 0 + k
+slot-names : (x y : Bool) (k : ℕ) → cond {A = ℕ} x 1 0 + cond {A = ℕ} y 1 0 ≤ 1
+    → cond (x || y) (suc k) k ≡ cond {A = ℕ} x 1 0 + cond {A = ℕ} y 1 0 + k
 slot-names true true k h = absurd (omega arith)
 slot-names true false k h = omega arith
 slot-names false true k h = omega arith
@@ -78,13 +83,16 @@ names-row r i up (dir n o a b c t) s h =
 abbrev Within : Objects → ℕ → Node → Type 0
 Within os up c = (r : ℕ) → namings r (slotsOf c) ≤ namings r (slots (blockAt os up))
 
+-- a whole row
 within-whole : (os : Objects) (up : ℕ) (b : Block) (c : Node) → blockAt os up ≡ b → slots b ≡ slotsOf c → Within os up c
 within-whole os up b c e d r = rw (e, d) (omega arith)
 
+-- the last of three tests holds
 or-last : (x y w : Bool) → w ≡ true → (x || (y || w)) ≡ true
 or-last x y w e = rw (e, or-true y, or-true x)
 
 module _ {os : Objects} {root : ℕ} {rb : Block} {top : Node} (q : Rep os root rb top) where
+  -- an object is named once, the root not at all
   once-named : (r : ℕ) → 0 < r → 1 ≤ times r os → eqb (allNamings r os) (cond (eqb r root) 0 1) ≡ true
   once-named r pos h =
       let k = q .alike (here r) in
@@ -99,6 +107,7 @@ module _ {os : Objects} {root : ℕ} {rb : Block} {top : Node} (q : Rep os root 
       go true e k t = rw (eq-eqb r root (sym (eqb-true root r e))) (eq-eqb (allNamings r os) 0 (omega (arith, q .once r)))
       go false e k t = rw (ne-eqb r root (λ y. eqb-false root r e (sym y))) (eq-eqb (allNamings r os) 1 (omega (arith, q .once r, h)))
 
+  -- a directory is named by its parent
   dir-named : (up n r : ℕ) (a b : Block) (c t : Node) → 1 ≤ times r os → Stands up (dir n r a b c t) → Within os up (dir n r a b c t)
       → namedOnce os root r b ≡ true
   unfolding namedOnce
@@ -106,6 +115,7 @@ module _ {os : Objects} {root : ℕ} {rb : Block} {top : Node} (q : Rep os root 
       rw (once-named r (s .1 .some) i) (or-last (not (isDir b)) (eqb r root) _
       (rw (s .1 .parent, ne-eqb (namings r (slots (blockAt os up))) 0 (λ e. omega (arith, k r, naming-self n r (slotsOf t))))))
 
+  -- rule 4
   pub naming-kept : breakerOf rule4 os root ≡ none
   unfolding namedOnce
   naming-kept =

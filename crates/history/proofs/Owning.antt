@@ -24,6 +24,7 @@ use Rattle.history.proofs.Units.{covers, owns}
 
 -- ---- units from r on, up to e
 
+-- it is there, before them, or behind them
 covers-in : (u r e : ℕ) → r ≤ u → u < e → covers u r e ≡ 1
 covers-in u r e h k = rw (le-leb r u h, lt-ltb u e k)
 
@@ -57,6 +58,7 @@ covers-join u r m e a b = go (ltb u m) refl
     go true q = low (leb r u) refl (ltb-true u m q)
     go false q = high (ltb u e) refl (ltb-false u m q)
 
+-- no units
 covers-none : (u r : ℕ) → covers u r r ≡ 0
 covers-none u r = go (leb r u) refl
   where
@@ -76,6 +78,7 @@ unfolding chainFrom
 chain-more s k zero h = absurd (omega arith)
 chain-more s k (suc r) h = refl
 
+-- one owner more
 owned-more : (s : List ℕ) (u r : ℕ) (os : List Owner) → owned u (ownerAt s r ∷ os) ≡ covers u r (r + unitsFor (sizeAt s r)) + owned u os
 unfolding owned
 owned-more s u r os = refl
@@ -103,6 +106,7 @@ module _ {s : List ℕ} (k : Sound s) where
     parts : all ≡ pre ++ es
     ref : endOf 2 pre ≡ r
 
+  -- behind the first of them
   rest-on : (r : ℕ) (e : Extent) (es : List Extent) → Rest r (e ∷ es) → Rest (r + sizeOf e) es
   unfolding endOf
   rest-on r e es w = record {
@@ -111,6 +115,7 @@ module _ {s : List ℕ} (k : Sound s) where
     ref = end-append 2 (w .pre) (e ∷ []) ∙ ap (λ (n : ℕ). n + sizeOf e) (w .ref);
   }
 
+  -- all are sound
   all-sound : (r : ℕ) (es : List Extent) (w : Rest r es) → AllSound (w .pre ++ es)
   all-sound r es w = subst AllSound (w .parts) (k .volume .extents .sound)
 
@@ -118,6 +123,7 @@ module _ {s : List ℕ} (k : Sound s) where
   rendered-so : (r : ℕ) (es : List Extent) (w : Rest r es) → image (volume (volumeOf s .root) (w .pre ++ es)) ≡ s
   rendered-so r es w = ap (λ (x : List Extent). image (volume (volumeOf s .root) x)) (sym (w .parts)) ∙ k .rendered
 
+  -- an object owns its units
   owns-object : (u r : ℕ) (b : Block) (es : List Extent) → Rest r (allocated b ∷ es) → owns s u (r, b) ≡ covers u r (r + units b)
   unfolding sizeAt
   owns-object u r b es w =
@@ -125,6 +131,7 @@ module _ {s : List ℕ} (k : Sound s) where
       (ap (λ (x : List ℕ). u32At x (16 * r + 4)) (sym (k .rendered))
       ∙ size-at (volumeOf s) r b (k .volume .extents .sound) (record { pre = w .pre; post = es; parts = w .parts; ref = w .ref }))
 
+  -- a free block owns its units, and holds the next free ref
   module _ (r v : ℕ) (left : List ℕ) (es : List Extent) (w : Rest r (free v left ∷ es)) where
     pre-sound : AllSound (w .pre)
     pre-sound = sound-front (w .pre) (free v left ∷ es) (all-sound r (free v left ∷ es) w)
@@ -179,6 +186,7 @@ module _ {s : List ℕ} (k : Sound s) where
         covers-join u r (r + v) (endOf (r + v) es) (omega arith) (end-ge (r + v) es),
       )
 
+  -- every unit
   pub owned-once : (u : ℕ) → 16 * u < length s
       → covers u 0 (0 + unitsFor (sizeAt s 0)) + sum (owns s u) (objects (volumeOf s)) + owned u (chainFrom s (length s) (u64At s 16)) ≡ 1
   unfolding objects endOf

@@ -16,15 +16,18 @@ use Rattle.history.proofs.Walks.{among-top, of-dir, rest-of, row-of}
 
 -- ---- kinds exclude each other
 
+-- a name
 pub name-no-dir : (b : Block) → isName b ≡ true → isDir b ≡ false
 name-no-dir b h = rw (eqb-true (b .magic) _ h)
 
 pub name-no-file : (b : Block) → isName b ≡ true → isFile b ≡ false
 name-no-file b h = rw (eqb-true (b .magic) _ h)
 
+-- a file
 pub file-no-name : (b : Block) → isFile b ≡ true → isName b ≡ false
 file-no-name b h = rw (eqb-true (b .magic) _ h)
 
+-- a directory
 pub dir-no-name : (b : Block) → isDir b ≡ true → isName b ≡ false
 dir-no-name b h = rw (eqb-true (b .magic) _ h)
 
@@ -37,9 +40,11 @@ dir-no-file b h = rw (eqb-true (b .magic) _ h)
 abbrev bad : (ℕ → Block → Bool) → Item → ℕ
 bad p o = cond (p (o .0) (o .1)) 0 1
 
+-- a block that passes counts for nothing
 bad-none : (p : ℕ → Block → Bool) (r : ℕ) (b : Block) → p r b ≡ true → bad p (r, b) ≡ 0
 bad-none p r b h = rw h
 
+-- where none is counted, none fails
 no-breaker : (p : ℕ → Block → Bool) (os : Objects) → sum (bad p) os ≡ 0 → breaker p os ≡ none
 unfolding breaker
 no-breaker p [] h = refl
@@ -68,6 +73,7 @@ module _ (os : Objects) (once : (r : ℕ) → times r os ≤ 1) (p : ℕ → Blo
     (onDir : (up n r : ℕ) (a b : Block) (c t : Node) → 1 ≤ times r os → Stands up (dir n r a b c t) → Among os (dir n r a b c t)
       → Known up (dir n r a b c t) → (p r b ≡ true) × Known r c) where
 
+  -- no block of a row fails
   row-good : (up : ℕ) (c : Node) → Stands up c → Among os c → Known up c → sumOf (bad p) c ≡ 0
   row-good up end s h k = refl
   row-good up (empty t) s h k = row-good up t s h (pastEmpty up t k)
@@ -88,6 +94,7 @@ module _ (os : Objects) (once : (r : ℕ) → times r os ≤ 1) (p : ℕ → Blo
         row-good up t (s .4) (rest-of os once n r a b t (of-dir os once n r a b c t h)) (pastDir up n r a b c t k),
       )
 
+  -- nor of the tree
   pub all-good : (root : ℕ) (b : Block) (c : Node) → Rep os root b c → p root b ≡ true → Known root c → breaker p os ≡ none
   all-good root b c q h k =
       no-breaker p os (omega (arith, q .alike (bad p), bad-none p root b h, row-good root c (q .row) (among-top os root b c q) k))
