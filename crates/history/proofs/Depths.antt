@@ -83,6 +83,6 @@ module _ {os : Objects} (rises : Rises 2 os) {root : ℕ} {rb : Block} {top : No
       (λ up n o a b t k. record { depth = k .depth; climbs = k .climbs; shallow = omega (arith, k .shallow) })
       (λ up n o a b c t k. record { depth = k .depth; climbs = k .climbs; shallow = omega (arith, k .shallow) })
       (λ up n r a b c t i s h k.
-        let d = deep-dir up n r a b c t s h k in
-        (depth-kept r b c (s .1 .isDir) (s .1 .slots) d, d))
+      let d = deep-dir up n r a b c t s h k in
+      (depth-kept r b c (s .1 .isDir) (s .1 .slots) d, d))
       root rb top q (depth-kept root rb top (q .top .isDir) (q .top .slots) deep-top) deep-top

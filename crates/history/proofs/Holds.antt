@@ -104,7 +104,7 @@ module _ {os : Objects} {root : ℕ} {rb : Block} {top : Node} (q : Rep os root 
       (λ r b i h. rw (file-no-name b (h .isFile), slots-other b (file-not b (h .isFile))))
       (λ up t k. tt) (λ up n r a b t k. tt) (λ up n r a b c t k. tt)
       (λ up n r a b c t i s h k.
-        (rw (dir-no-name b (s .1 .isDir), s .1 .slots) (all-distinct r c (s .3) (row-of os (q .once) n r a b c t h)), tt))
+      (rw (dir-no-name b (s .1 .isDir), s .1 .slots) (all-distinct r c (s .3) (row-of os (q .once) n r a b c t h)), tt))
       root rb top q
       (rw (dir-no-name rb (q .top .isDir), q .top .slots) (all-distinct root top (q .row) (among-top os root rb top q))) tt
 

@@ -34,7 +34,7 @@ lines-none os r up n d = refl
 
 lines-more : (k : ℕ) (os : Objects) (r up n d : ℕ)
     → objectLines (suc k) os r up n d
-      ≡ lineOf r up n d (blockAt os r) ∷ slotLines (λ m o. objectLines k os o r m (suc d)) (slots (blockAt os r))
+    ≡ lineOf r up n d (blockAt os r) ∷ slotLines (λ m o. objectLines k os o r m (suc d)) (slots (blockAt os r))
 unfolding objectLines
 lines-more k os r up n d = refl
 
@@ -48,7 +48,7 @@ module _ (os : Objects) (once : (r : ℕ) → times r os ≤ 1) where
   -- the slots of a row, where k levels are enough for what is below them
   row-lines : (k up d : ℕ)
       → ((r n : ℕ) (b : Block) (c : Node) → blockAt os r ≡ b → DirNode r up b c → Stands r c → Among os c → height c ≤ k
-        → objectLines k os r up n d ≡ lineOf r up n d b ∷ rowLines r (suc d) c)
+      → objectLines k os r up n d ≡ lineOf r up n d b ∷ rowLines r (suc d) c)
       → (c : Node) → Stands up c → Among os c → height c ≤ suc k
       → slotLines (λ m o. objectLines k os o up m d) (slotsOf c) ≡ rowLines up d c
   unfolding slotLines

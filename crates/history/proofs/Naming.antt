@@ -99,7 +99,7 @@ module _ {os : Objects} {root : ℕ} {rb : Block} {top : Node} (q : Rep os root 
       let one = q .once r in
       let row : sumOf (here r) top ≤ 1 = omega arith in
       let total : allNamings r os ≡ sumOf (here r) top =
-          omega (arith, all-sum r os, q .alike (named-by r), ap (namings r) (q .top .slots), names-row r pos root top (q .row) row) in
+      omega (arith, all-sum r os, q .alike (named-by r), ap (namings r) (q .top .slots), names-row r pos root top (q .row) row) in
       go (eqb root r) refl k total
     where
       go : (x : Bool) → eqb root r ≡ x → times r os ≡ cond {A = ℕ} x 1 0 + sumOf (here r) top → allNamings r os ≡ sumOf (here r) top

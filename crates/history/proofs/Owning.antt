@@ -144,8 +144,8 @@ module _ {s : List ℕ} (k : Sound s) where
     unfolding sizeAt
     free-units =
         let e : sizeAt s r ≡ 16 * v - 8 =
-            ap (λ (x : List ℕ). u32At x (16 * r + 4)) (sym (rendered-so r (free v left ∷ es) w))
-            ∙ gap-size (volumeOf s .root) r v left (w .pre) es (w .ref) pre-sound free-sound in
+        ap (λ (x : List ℕ). u32At x (16 * r + 4)) (sym (rendered-so r (free v left ∷ es) w))
+        ∙ gap-size (volumeOf s .root) r v left (w .pre) es (w .ref) pre-sound free-sound in
         omega (arith, free-sound .0)
 
     free-next : u64At s (16 * r + 8) ≡ firstFree (r + v) es
@@ -197,7 +197,7 @@ module _ {s : List ℕ} (k : Sound s) where
         ap (covers u 0) (first-two (sound-tiled k)),
         ap (λ (m : ℕ). owned u (chainFrom s (length s) m)) (sound-first k),
         rest-owned u 2 (length s) all (k .volume .extents .sound) (record { pre = []; parts = refl; ref = refl })
-        (omega (arith, extents-few 2 all (k .volume .extents .sound))) (omega arith),
+            (omega (arith, extents-few 2 all (k .volume .extents .sound))) (omega arith),
         covers-join u 0 2 (endOf 2 all) (omega arith) (end-ge 2 all),
         covers-in u 0 (endOf 2 all) (omega arith) (omega arith),
       )

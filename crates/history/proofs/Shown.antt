@@ -83,7 +83,7 @@ module _ (os : Objects) (once : (r : ℕ) → times r os ≤ 1) (root : ℕ) (rb
   -- less of the row, with what is known of the names in it
   shorter : {up : ℕ} {pre : List (List ℕ)} {here above : List ℕ} {c t : Node} (w : Row up pre here above c)
       → ((v : List ℕ) (ws : List (List ℕ)) → named v t ≡ true
-        → childAt v (atFile ws) (seek ws) (w .whole) ≡ childAt v (atFile ws) (seek ws) t)
+      → childAt v (atFile ws) (seek ws) (w .whole) ≡ childAt v (atFile ws) (seek ws) t)
       → Row up pre here above t
   shorter w f = record { block = w .block; whole = w .whole; reached = w .reached; last = f; spelled = w .spelled; path = w .path }
 
@@ -125,14 +125,14 @@ module _ (os : Objects) (once : (r : ℕ) → times r os ≤ 1) (root : ℕ) (rb
   file-match : (up d : ℕ) (pre : List (List ℕ)) (here above : List ℕ) (n r : ℕ) (a b : Block) (t : Node) → Stands up (file n r a b t)
       → Among os (file n r a b t) → length pre < 16 → Row up pre here above (file n r a b t)
       → Matches os root rb top (lineOf r up n d b)
-        (record {
-          path = here ++ a .body;
-          name = a .body;
-          above = above;
-          depth = d;
-          kind = reading.file (length (content b)) (room b);
-          bytes = content b;
-        })
+      (record {
+        path = here ++ a .body;
+        name = a .body;
+        above = above;
+        depth = d;
+        kind = reading.file (length (content b)) (room b);
+        bytes = content b;
+      })
   unfolding lineOf
   file-match up d pre here above n r a b t s h l w = record {
     depth = refl;
@@ -152,14 +152,14 @@ module _ (os : Objects) (once : (r : ℕ) → times r os ≤ 1) (root : ℕ) (rb
   dir-match : (up d : ℕ) (pre : List (List ℕ)) (here above : List ℕ) (n r : ℕ) (a b : Block) (c t : Node) → Stands up (dir n r a b c t)
       → Among os (dir n r a b c t) → length pre < 16 → Row up pre here above (dir n r a b c t)
       → Matches os root rb top (lineOf r up n d b)
-        (record {
-          path = here ++ a .body;
-          name = a .body;
-          above = above;
-          depth = d;
-          kind = directory (takenIn (bookOf c)) (slotsIn (bookOf c));
-          bytes = [];
-        })
+      (record {
+        path = here ++ a .body;
+        name = a .body;
+        above = above;
+        depth = d;
+        kind = directory (takenIn (bookOf c)) (slotsIn (bookOf c));
+        bytes = [];
+      })
   unfolding lineOf
   dir-match up d pre here above n r a b c t s h l w = record {
     depth = refl;
@@ -203,7 +203,7 @@ module _ (os : Objects) (once : (r : ℕ) → times r os ≤ 1) (root : ℕ) (rb
 -- the root's line
 root-match : (os : Objects) (root : ℕ) (b : Block) (c : Node) → Rep os root b c
     → Matches os root b c (lineOf root root 0 0 b)
-      (record { path = slash; name = []; above = slash; depth = 0; kind = directory (takenIn (bookOf c)) (slotsIn (bookOf c)); bytes = [] })
+    (record { path = slash; name = []; above = slash; depth = 0; kind = directory (takenIn (bookOf c)) (slotsIn (bookOf c)); bytes = [] })
 unfolding lineOf
 root-match os root b c p = record {
   depth = refl;

@@ -71,8 +71,7 @@ module _ (os : Objects) (once : (r : ℕ) → times r os ≤ 1) (p : ℕ → Blo
     (pastFile : (up n r : ℕ) (a b : Block) (t : Node) → Known up (file n r a b t) → Known up t)
     (pastDir : (up n r : ℕ) (a b : Block) (c t : Node) → Known up (dir n r a b c t) → Known up t)
     (onDir : (up n r : ℕ) (a b : Block) (c t : Node) → 1 ≤ times r os → Stands up (dir n r a b c t) → Among os (dir n r a b c t)
-      → Known up (dir n r a b c t) → (p r b ≡ true) × Known r c) where
-
+    → Known up (dir n r a b c t) → (p r b ≡ true) × Known r c) where
   -- no block of a row fails
   row-good : (up : ℕ) (c : Node) → Stands up c → Among os c → Known up c → sumOf (bad p) c ≡ 0
   row-good up end s h k = refl
