@@ -18,3 +18,4 @@ pub mod Claims
 pub mod Counting
 pub mod Levels
 pub mod Trees
+pub mod Few
