@@ -1,3 +1,4 @@
 pub mod Sums
 pub mod Nodes
 pub mod Good
+pub mod Moves
