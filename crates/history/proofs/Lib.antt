@@ -1,4 +1,6 @@
 pub mod Sums
 pub mod Nodes
 pub mod Good
+pub mod Refs
+pub mod Walks
 pub mod Moves

@@ -7,7 +7,7 @@ use mathlib.Core.Path.{_≡_, ap, refl, subst, sym}
 use native.Mathlib.Omega.{arith}
 use lib.Dec.{eqb, ltb}
 use lib.ListN.{length}
-use borrow.Author.Tests.{eqb-true, ne-eqb}
+use borrow.Author.Tests.{eqb-true}
 use Rattle.alloc.specs.Block.{Block, units}
 use Rattle.alloc.specs.Room.{Placed, PlacedPair, nameFirst, objectFirst, place, placePair, placeTwo, released, updated}
 use Rattle.alloc.specs.Sound.{SoundExtent, SoundVolume, endOf}
@@ -15,29 +15,8 @@ use Rattle.alloc.specs.Volume.{Extent, Objects, Volume, allocated, blockAt, fre
 use Rattle.alloc.proofs.Changes.{Changed, Inserted, objects-changed, objects-deleted, objects-inserted, pair-sound, released-sound, updated-sound}
 use Rattle.alloc.proofs.Data.{found, sized-at, spliced}
 use Rattle.alloc.proofs.Heads.{end-ge, volume}
+use Rattle.history.proofs.Refs.{refs-once}
 use Rattle.history.proofs.Sums.{Item, looked-up, sum, this, times}
-
--- ---- no two objects have one ref
-
-below : (r q : ℕ) (es : List Extent) → r < q → times r (objectsFrom q es) ≡ 0
-unfolding objectsFrom
-below r q [] h = refl
-below r q (allocated b ∷ es) h = rw (ne-eqb q r (λ e. omega arith)) (omega (arith, below r (q + units b) es (omega arith)))
-below r q (free u l ∷ es) h = below r (q + u) es (omega arith)
-
-once-from : (r q : ℕ) (es : List Extent) → times r (objectsFrom q es) ≤ 1
-unfolding objectsFrom
-once-from r q [] = omega arith
-once-from r q (allocated b ∷ es) = go (eqb q r) refl (once-from r (q + units b) es)
-  where
-    go : (x : Bool) → eqb q r ≡ x → times r (objectsFrom (q + units b) es) ≤ 1 → cond {A = ℕ} x 1 0 + times r (objectsFrom (q + units b) es) ≤ 1
-    go true e k = omega (arith, below r (q + units b) es (omega (arith, eqb-true q r e)))
-    go false e k = omega arith
-once-from r q (free u l ∷ es) = once-from r (q + u) es
-
-pub once : (v : Volume) (r : ℕ) → times r (objects v) ≤ 1
-unfolding objects
-once v r = once-from r 2 (v .extents)
 
 -- ---- an object's ref lies within the image
 
@@ -84,7 +63,7 @@ pub record Has (v : Volume) (t : ℕ) (b : Block) : Type 0 where
 
 module _ {v : Volume} {t : ℕ} {b : Block} (h : Has v t b) where
   pub has-block : blockAt (objects v) t ≡ b
-  has-block = looked-up (objects v) t b (h .counted) (once v t)
+  has-block = looked-up (objects v) t b (h .counted) (refs-once v t)
 
   has-magic : 0 < blockAt (objects v) t .magic
   has-magic = subst (λ (c : Block). 0 < c .magic) (sym has-block) (h .real)
