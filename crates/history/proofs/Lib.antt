@@ -4,3 +4,5 @@ pub mod Good
 pub mod Refs
 pub mod Walks
 pub mod Moves
+pub mod Cells
+pub mod Bodies

@@ -1,0 +1,138 @@
+-- Slots and file bytes in the data of a block, as they are made and after a store.
+use Prim.Native.Nat.{_*_, _+_, _-_, _/_, _<_, _≤_, suc, zero, ℕ}
+use mathlib.Core.Bool.{true}
+use mathlib.Core.List.{List, [], _++_, _∷_, append-nil}
+use mathlib.Core.Option.{some}
+use mathlib.Core.Path.{_∙_, _≡_, ap, ap₂, refl, sym}
+use native.Mathlib.Nat.{zero-add}
+use native.Mathlib.Omega.{arith}
+use lib.ListN.{drop, getD, getD-replicate, length, length-append, set, take}
+use Rattle.storage.specs.Bytes.{be32, be64, splice, u64At, zeroed}
+use Rattle.storage.proofs.Numbers.{be64-read, length-be64, u64-agree, u64-before, u64-behind, u64-right}
+use Rattle.storage.proofs.Splice.{length-splice, splice-inside}
+use Rattle.alloc.specs.Block.{Block}
+use Rattle.alloc.proofs.Data.{spliced}
+use Rattle.alloc.proofs.Releasing.{length-zeroed}
+use Rattle.alloc.proofs.Walks.{whole}
+use Rattle.tree.specs.Fields.{Slot, content, fileSize, isDir, isFile, parent, room, slotAt, slots, slotsFrom, total}
+use Rattle.tree.proofs.Indexed.{slots-dir}
+use Rattle.changes.specs.Changing.{newDirectory, newFile}
+use Rattle.changes.proofs.Formatting.{inside}
+use Rattle.history.proofs.Nodes.{FileNode, Node, empty, end, slotsOf}
+
+-- ---- a slot set
+
+-- slot i of a directory with these refs in it
+abbrev pub slotted : Block → ℕ → ℕ → ℕ → Block
+slotted b i n o = spliced b (8 + 16 * i) (be64 n ++ be64 o)
+
+length-pair : (n o : ℕ) → length (be64 n ++ be64 o) ≡ 16
+length-pair n o = omega (arith, length-append (be64 n) (be64 o), length-be64 n, length-be64 o)
+
+module _ (b : Block) (i n o : ℕ) (inside : i < total b) where
+  fits : 8 + 16 * i + length (be64 n ++ be64 o) ≤ length (b .body)
+  fits = omega (arith, length-pair n o)
+
+  pub slotted-length : length (slotted b i n o .body) ≡ length (b .body)
+  slotted-length = length-splice (b .body) (be64 n ++ be64 o) (8 + 16 * i) fits
+
+  pub slotted-parent : parent (slotted b i n o) ≡ parent b
+  slotted-parent = u64-before (b .body) (be64 n ++ be64 o) (8 + 16 * i) fits 0 (omega arith)
+
+  before : (j : ℕ) → j < i → slotAt (slotted b i n o) j ≡ slotAt b j
+  before j h =
+      let u = u64-before (b .body) (be64 n ++ be64 o) (8 + 16 * i) fits in
+      ap₂ (λ (x y : ℕ). (x, y)) (u (8 + 16 * j) (omega arith)) (u (16 + 16 * j) (omega arith))
+
+  behind : (j : ℕ) → i < j → slotAt (slotted b i n o) j ≡ slotAt b j
+  behind j h =
+      let u = u64-behind (b .body) (be64 n ++ be64 o) (8 + 16 * i) fits in
+      ap₂ (λ (x y : ℕ). (x, y)) (u (8 + 16 * j) (omega (arith, length-pair n o))) (u (16 + 16 * j) (omega (arith, length-pair n o)))
+
+  -- the slots behind it
+  rest : (j k : ℕ) → i < j → slotsFrom (slotted b i n o) j k ≡ slotsFrom b j k
+  unfolding slotsFrom
+  rest j zero h = refl
+  rest j (suc k) h = ap₂ (λ (x : Slot) (l : List Slot). x ∷ l) (behind j h) (rest (j + 1) k (omega arith))
+
+  module _ (p : n < 18446744073709551616) (q : o < 18446744073709551616) where
+    -- what stands in it
+    inside-is : slotAt (slotted b i n o) i ≡ (n, o)
+    inside-is =
+        let x : List ℕ = be64 n ++ be64 o in
+        let s : (j : ℕ) → j < 16 → getD (splice (b .body) (8 + 16 * i) x) (8 + 16 * i + j) 0 ≡ getD x j 0 =
+        λ j h. splice-inside (b .body) x (8 + 16 * i) j fits (omega (arith, length-pair n o)) in
+        let e : u64At (slotted b i n o .body) (8 + 16 * i) ≡ u64At x 0 =
+        u64-agree (slotted b i n o .body) x (8 + 16 * i) 0 (λ j h. s j (omega arith) ∙ ap (λ (m : ℕ). getD x m 0) (sym (zero-add j))) in
+        let a : (j : ℕ) → 8 + 16 * i + (8 + j) ≡ 16 + 16 * i + j = λ j. omega arith in
+        let f : u64At (slotted b i n o .body) (16 + 16 * i) ≡ u64At x 8 =
+        u64-agree (slotted b i n o .body) x (16 + 16 * i) 8
+        (λ j h. ap (λ (m : ℕ). getD (slotted b i n o .body) m 0) (sym (a j)) ∙ s (8 + j) (omega arith)) in
+        let g : u64At x 8 ≡ o =
+        u64-right (be64 n) (be64 o) 0 8 (omega (arith, length-be64 n)) ∙ ap (λ (y : List ℕ). u64At y 0) (sym (append-nil (be64 o))) ∙ be64-read o [] q in
+        ap₂ (λ (x y : ℕ). (x, y)) (e ∙ be64-read n (be64 o) p) (f ∙ g)
+
+    set-from : (j m k : ℕ) → j + m ≡ i → m < k → slotsFrom (slotted b i n o) j k ≡ set (slotsFrom b j k) m (n, o)
+    unfolding slotsFrom
+    set-from j m zero e h = absurd (omega arith)
+    set-from j zero (suc k) e h =
+        let z : j ≡ i = omega arith in
+        ap₂ (λ (x : Slot) (l : List Slot). x ∷ l) (ap (slotAt (slotted b i n o)) z ∙ inside-is) (rest (j + 1) k (omega arith))
+    set-from j (suc m) (suc k) e h =
+        ap₂ (λ (x : Slot) (l : List Slot). x ∷ l) (before j (omega arith)) (set-from (j + 1) m k (omega arith) (omega arith))
+
+    pub slotted-slots : isDir b ≡ true → slots (slotted b i n o) ≡ set (slots b) i (n, o)
+    slotted-slots d =
+        let t : total (slotted b i n o) ≡ total b = ap (λ (x : ℕ). (x - 8) / 16) slotted-length in
+        slots-dir (slotted b i n o) d
+        ∙ ap (slotsFrom (slotted b i n o) 0) t
+        ∙ set-from 0 i (total b) (zero-add i) inside
+        ∙ ap (λ (l : List Slot). set l i (n, o)) (sym (slots-dir b d))
+
+-- ---- new blocks
+
+-- so many empty slots
+abbrev pub emptyRow : ℕ → Node
+emptyRow zero = end
+emptyRow (suc k) = empty (emptyRow k)
+
+zero-read : (n p : ℕ) → p + 8 ≤ n → u64At (zeroed n) p ≡ 0
+zero-read n p h =
+    u64-agree (zeroed n) (be64 0 ++ []) p 0 (λ i l. getD-replicate n (p + i) 0 0 (omega arith) ∙ zero-byte i l) ∙ be64-read 0 [] (omega arith)
+  where
+    zero-byte : (i : ℕ) → i < 8 → 0 ≡ getD (be64 0 ++ []) (0 + i) 0
+    unfolding be64 be32
+    zero-byte i l = sym (ap (λ (m : ℕ). getD (zeroed 8) m 0) (zero-add i) ∙ getD-replicate 8 i 0 0 l)
+
+module _ (d k : ℕ) where
+  length-directory : length (newDirectory d k .body) ≡ 8 + 16 * k
+  length-directory = omega (arith, length-append (be64 d) (zeroed (16 * k)), length-be64 d, length-zeroed (16 * k))
+
+  pub new-parent : d < 18446744073709551616 → parent (newDirectory d k) ≡ d
+  new-parent h = be64-read d (zeroed (16 * k)) h
+
+  empty-at : (i : ℕ) → i < k → slotAt (newDirectory d k) i ≡ (0, 0)
+  empty-at i h =
+      let u : (p : ℕ) → p + 8 ≤ 16 * k → u64At (newDirectory d k .body) (8 + p) ≡ 0 =
+      λ p l. u64-right (be64 d) (zeroed (16 * k)) p (8 + p) (ap (λ (m : ℕ). m + p) (length-be64 d)) ∙ zero-read (16 * k) p l in
+      let e : 16 + 16 * i ≡ 8 + (8 + 16 * i) = omega arith in
+      ap₂ (λ (x y : ℕ). (x, y)) (u (16 * i) (omega arith)) (ap (u64At (newDirectory d k .body)) e ∙ u (8 + 16 * i) (omega arith))
+
+  empty-from : (j m : ℕ) → j + m ≤ k → slotsFrom (newDirectory d k) j m ≡ slotsOf (emptyRow m)
+  unfolding slotsFrom
+  empty-from j zero h = refl
+  empty-from j (suc m) h = ap₂ (λ (x : Slot) (l : List Slot). x ∷ l) (empty-at j (omega arith)) (empty-from (j + 1) m (omega arith))
+
+  pub new-slots : slots (newDirectory d k) ≡ slotsOf (emptyRow k)
+  new-slots =
+      let t : total (newDirectory d k) ≡ k = omega (arith, length-directory) in
+      slots-dir (newDirectory d k) refl ∙ ap (slotsFrom (newDirectory d k) 0) t ∙ empty-from 0 k (omega arith)
+
+pub new-file : (r m : ℕ) → 0 < r → FileNode r (newFile m) × (room (newFile m) ≡ m) × (content (newFile m) ≡ [])
+unfolding content
+new-file r m h =
+    let l : length (newFile m .body) ≡ 16 + m = length-zeroed (16 + m) in
+    let z : fileSize (newFile m) ≡ 0 = zero-read (16 + m) 0 (omega arith) in
+    (record { some = h; isFile = refl; fits = omega arith; reserved = zero-read (16 + m) 8 (omega arith); whole = omega arith },
+    omega arith,
+    ap (λ (x : ℕ). take x (drop 16 (newFile m .body))) z)
