@@ -39,6 +39,10 @@ drop-splice s x m j h =
     ∙ ap (drop m) (splice-right (take m s) (drop m s) x j (m + j) (ap (λ (k : ℕ). k + j) l))
     ∙ drop-at (take m s) (splice (drop m s) j x) m l
 
+past-size : (n : ℕ) (s : List ℕ) → drop 16 (be64 n ++ drop 8 s) ≡ drop 16 s
+unfolding be64 be32
+past-size n s = drop-drop 8 8 s
+
 -- ---- the fields
 
 module _ (b : Block) (size from : ℕ) (x : List ℕ) (whole : 16 ≤ length (b .body)) (inside : from + length x ≤ room b) where
@@ -72,12 +76,8 @@ module _ (b : Block) (size from : ℕ) (x : List ℕ) (whole : 16 ≤ length (b 
   unfolding content splice
   content-rewritten h =
       let f : drop 16 (splice inner 0 (be64 size)) ≡ drop 16 inner =
-      ap (λ (k : ℕ). drop 16 (be64 size ++ drop k inner)) (zero-add (length (be64 size)) ∙ length-be64 size) ∙ skip in
+      ap (λ (k : ℕ). drop 16 (be64 size ++ drop k inner)) (zero-add (length (be64 size)) ∙ length-be64 size) ∙ past-size size inner in
       ap₂ (λ (n : ℕ) (l : List ℕ). take n l) (size-rewritten h) (f ∙ drop-splice (b .body) x 16 from (omega arith))
-    where
-      skip : drop 16 (be64 size ++ drop 8 inner) ≡ drop 16 inner
-      unfolding be64 be32
-      skip = drop-drop 8 8 inner
 
   -- so the block stands as a file, with the bytes that f makes
   pub rewritten-file : (r : ℕ) → FileNode r b → size ≤ room b → length (b .body) < 4294967296 → (f : List ℕ → List ℕ)

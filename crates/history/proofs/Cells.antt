@@ -18,7 +18,9 @@ use Rattle.tree.specs.Fields.{Slot, content, fileSize, isDir, isFile, parent, r
 use Rattle.tree.proofs.Indexed.{slots-dir}
 use Rattle.changes.specs.Changing.{newDirectory, newFile}
 use Rattle.changes.proofs.Formatting.{inside}
-use Rattle.history.proofs.Nodes.{FileNode, Node, empty, end, slotsOf}
+use Rattle.history.proofs.EmptyRow.{emptyRow}
+use Rattle.history.proofs.Nodes.{DirNode, FileNode, Node, slotsOf}
+use Rattle.history.proofs.Walks.{total-row}
 
 -- ---- a slot set
 
@@ -89,20 +91,27 @@ module _ (b : Block) (i n o : ℕ) (inside : i < total b) where
         ∙ set-from 0 i (total b) (zero-add i) inside
         ∙ ap (λ (l : List Slot). set l i (n, o)) (sym (slots-dir b d))
 
+-- the directory's block, of a row with the same slot set
+pub slotted-node : {d up : ℕ} {b : Block} {c row : Node} (i n o : ℕ) → i < length (slotsOf c) → n < 18446744073709551616 → o < 18446744073709551616
+    → slotsOf row ≡ set (slotsOf c) i (n, o) → DirNode d up b c → DirNode d up (slotted b i n o) row
+slotted-node {d} {up} {b} {c} i n o l p q e h =
+    let t : i < total b = omega (arith, total-row b c (h .isDir) (h .slots)) in
+    record {
+      some = h .some;
+      isDir = h .isDir;
+      parent = slotted-parent b i n o t ∙ h .parent;
+      slots = slotted-slots b i n o t p q (h .isDir) ∙ ap (λ (l : List Slot). set l i (n, o)) (h .slots) ∙ sym e;
+    }
+
 -- ---- new blocks
 
--- so many empty slots
-abbrev pub emptyRow : ℕ → Node
-emptyRow zero = end
-emptyRow (suc k) = empty (emptyRow k)
+zero-byte : (i : ℕ) → i < 8 → 0 ≡ getD (be64 0 ++ []) (0 + i) 0
+unfolding be64 be32
+zero-byte i l = sym (ap (λ (m : ℕ). getD (zeroed 8) m 0) (zero-add i) ∙ getD-replicate 8 i 0 0 l)
 
 zero-read : (n p : ℕ) → p + 8 ≤ n → u64At (zeroed n) p ≡ 0
 zero-read n p h =
     u64-agree (zeroed n) (be64 0 ++ []) p 0 (λ i l. getD-replicate n (p + i) 0 0 (omega arith) ∙ zero-byte i l) ∙ be64-read 0 [] (omega arith)
-  where
-    zero-byte : (i : ℕ) → i < 8 → 0 ≡ getD (be64 0 ++ []) (0 + i) 0
-    unfolding be64 be32
-    zero-byte i l = sym (ap (λ (m : ℕ). getD (zeroed 8) m 0) (zero-add i) ∙ getD-replicate 8 i 0 0 l)
 
 module _ (d k : ℕ) where
   length-directory : length (newDirectory d k .body) ≡ 8 + 16 * k

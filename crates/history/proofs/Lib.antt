@@ -4,5 +4,10 @@ pub mod Good
 pub mod Refs
 pub mod Walks
 pub mod Moves
+pub mod EmptyRow
+pub mod Onward
 pub mod Cells
 pub mod Bodies
+pub mod Sights
+pub mod Edits
+pub mod MakeEdit
