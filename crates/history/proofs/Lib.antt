@@ -11,3 +11,5 @@ pub mod Bodies
 pub mod Sights
 pub mod Edits
 pub mod MakeEdit
+pub mod RemoveEdit
+pub mod BytesEdit

@@ -38,7 +38,7 @@ same-other v w h = go (same w v) refl
     go false e = refl
     go true e = absurd (true≢false (sym (same-refl v) ∙ ap (same v) (sym (same-eq w v e)) ∙ h))
 
-or-false : (p q : Bool) → (p || q) ≡ false → (p ≡ false) × (q ≡ false)
+pub or-false : (p q : Bool) → (p || q) ≡ false → (p ≡ false) × (q ≡ false)
 or-false true q e = absurd (true≢false e)
 or-false false q e = (refl, e)
 
