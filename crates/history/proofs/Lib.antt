@@ -13,3 +13,6 @@ pub mod Edits
 pub mod MakeEdit
 pub mod RemoveEdit
 pub mod BytesEdit
+pub mod LastName
+pub mod Beginning
+pub mod Sighted
