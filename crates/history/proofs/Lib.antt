@@ -16,3 +16,4 @@ pub mod BytesEdit
 pub mod LastName
 pub mod Beginning
 pub mod Sighted
+pub mod MakeStep

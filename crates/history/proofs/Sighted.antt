@@ -6,8 +6,8 @@ use mathlib.Core.Option.{Option, some}
 use mathlib.Core.Path.{_∙_, _≡_, ap, refl, subst, sym}
 use native.Mathlib.Omega.{arith}
 use lib.Dec.{eqb}
-use borrow.Author.Tests.{ne-eqb}
 use lib.ListN.{length}
+use borrow.Author.Tests.{ne-eqb}
 use Rattle.alloc.specs.Block.{Block}
 use Rattle.alloc.specs.Sound.{SoundVolume}
 use Rattle.alloc.specs.Volume.{Objects, Volume, image, objects, volumeOf}
@@ -28,8 +28,8 @@ use Rattle.history.proofs.Walks.{file-not, walk-is}
 
 -- ---- the answer m of a call, and the book t′ that it would leave accepted
 
-abbrev pub Kept : ℕ → Tree → Option Tree → ℕ → List ℕ → Type 0
-Kept n t t′ m s = (u : Tree) × (cond (eqb m 0) t′ (some t) ≡ some u) × Good n s u
+abbrev pub Answered : ℕ → Tree → Option Tree → ℕ → List ℕ → Type 0
+Answered n t t′ m s = (u : Tree) × (cond (eqb m 0) t′ (some t) ≡ some u) × Good n s u
 
 module _ {n : ℕ} {s : List ℕ} {t : Tree} (g : Good n s t) where
   abbrev os : Objects
@@ -38,14 +38,14 @@ module _ {n : ℕ} {s : List ℕ} {t : Tree} (g : Good n s t) where
   abbrev root : ℕ
   root = volumeOf s .root
 
-  pub kept-refused : (t′ : Option Tree) (m : ℕ) → Kept n t t′ (suc m) s
+  pub kept-refused : (t′ : Option Tree) (m : ℕ) → Answered n t t′ (suc m) s
   kept-refused t′ m = (t, ap (λ (q : Bool). cond q t′ (some t)) (ne-eqb (suc m) 0 (λ e. omega arith)), g)
 
   pub good-volume : SoundVolume n (volumeOf s)
   good-volume = subst (λ (m : ℕ). SoundVolume m (volumeOf s)) (g .long) (g .sound .volume)
 
   -- a changed volume, and its tree
-  pub kept-edited : {w : Volume} → SoundVolume n w → w .root ≡ root → (f : Tree → Option Tree) → Edited (objects w) root (f (bookOf (g .node))) → Kept n t (f t) 0 (image w)
+  pub kept-edited : {w : Volume} → SoundVolume n w → w .root ≡ root → (f : Tree → Option Tree) → Edited (objects w) root (f (bookOf (g .node))) → Answered n t (f t) 0 (image w)
   kept-edited {w} k e f x =
       (bookOf (x .node),
       ap f (sym (g .book)) ∙ x .book,
@@ -59,6 +59,10 @@ module _ {n : ℕ} {s : List ℕ} {t : Tree} (g : Good n s t) where
         book = refl;
       })
 
+  -- what counts in every sum is an object
+  pub counted-has : (r : ℕ) (b : Block) → 0 < b .magic → ((f : Item → ℕ) → f (r, b) ≤ sum f os) → Has (volumeOf s) r b
+  counted-has r b m h = record { counted = omega (arith, h (this r b), this-self r b); real = m }
+
   -- ---- what is sought
 
   module _ (ws : List (List ℕ)) where
@@ -70,10 +74,6 @@ module _ {n : ℕ} {s : List ℕ} {t : Tree} (g : Good n s t) where
 
     pub sought-weight : (x : Sought) → sought ≡ x → (f : Item → ℕ) → weight f x ≤ sum f os
     sought-weight x e f = omega (arith, weight-seek f ws root (g .block) (g .node), g .rep .alike f, ap (weight f) e)
-
-    -- a file is an object
-    pub sought-has : (r : ℕ) (b : Block) → 0 < b .magic → ((f : Item → ℕ) → f (r, b) ≤ sum f os) → Has (volumeOf s) r b
-    sought-has r b m h = record { counted = omega (arith, h (this r b), this-self r b); real = m }
 
     walked-is : walkFrom s ws ≡ walked (walkOf sought)
     walked-is = ap walked (walk-is os root (g .block) (g .node) (g .rep) ws)
@@ -88,12 +88,12 @@ module _ {n : ℕ} {s : List ℕ} {t : Tree} (g : Good n s t) where
         go (aFile o b) q h =
             let i : o ≡ d = cc in
             let f = sought-seen (aFile o b) q in
-            let y = has-block (sought-has o b (file-there b (f .isFile)) (sought-weight (aFile o b) q)) in
+            let y = has-block (counted-has o b (file-there b (f .isFile)) (sought-weight (aFile o b) q)) in
             absurd (true≢false (sym k ∙ ap (λ (r : ℕ). isDir (blockIn s r)) (sym i) ∙ ap isDir y ∙ file-not b (f .isFile)))
         go (aDir o b c) q h =
             let i : o ≡ d = cc in
             let f = sought-seen (aDir o b c) q in
-            let y = has-block (sought-has o b (dir-there b (f .0 .1 .isDir)) (λ h. omega (arith, sought-weight (aDir o b c) q h))) in
+            let y = has-block (counted-has o b (dir-there b (f .0 .1 .isDir)) (λ h. omega (arith, sought-weight (aDir o b c) q h))) in
             (c, λ j. aDir (i j) ((sym y ∙ ap (blockIn s) i) j) c)
 
     -- a file that a walk reaches
@@ -106,10 +106,10 @@ module _ {n : ℕ} {s : List ℕ} {t : Tree} (g : Good n s t) where
         go (aFile o b) q h =
             let i : o ≡ r = cc in
             let f = sought-seen (aFile o b) q in
-            let y = has-block (sought-has o b (file-there b (f .isFile)) (sought-weight (aFile o b) q)) in
+            let y = has-block (counted-has o b (file-there b (f .isFile)) (sought-weight (aFile o b) q)) in
             λ j. aFile (i j) ((sym y ∙ ap (blockIn s) i) j)
         go (aDir o b c) q h =
             let i : o ≡ r = cc in
             let f = sought-seen (aDir o b c) q in
-            let y = has-block (sought-has o b (dir-there b (f .0 .1 .isDir)) (λ h. omega (arith, sought-weight (aDir o b c) q h))) in
+            let y = has-block (counted-has o b (dir-there b (f .0 .1 .isDir)) (λ h. omega (arith, sought-weight (aDir o b c) q h))) in
             absurd (true≢false (sym (f .0 .1 .isDir) ∙ ap isDir (sym y) ∙ ap (λ (u : ℕ). isDir (blockIn s u)) i ∙ file-not (blockIn s r) k))
