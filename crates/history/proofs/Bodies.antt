@@ -183,8 +183,8 @@ resized-is d size n fits h = go (leb n size) refl
 abbrev pub gapThen : Block → ℕ → List ℕ → List ℕ
 gapThen b position bytes = zeroed (position - min position (fileSize b)) ++ bytes
 
-abbrev pub between : Block → ℕ → List ℕ
-between b n = zeroed (max n (fileSize b) - min n (fileSize b))
+abbrev pub gapTo : Block → ℕ → List ℕ
+gapTo b n = zeroed (max n (fileSize b) - min n (fileSize b))
 
 module _ (r : ℕ) (b : Block) (s : FileNode r b) (small : length (b .body) < 4294967296) where
   behind-fields : length (drop 16 (b .body)) ≡ room b
@@ -203,11 +203,11 @@ module _ (r : ℕ) (b : Block) (s : FileNode r b) (small : length (b .body) < 42
       (write-inside position bytes l) r s (omega (arith, s .fits)) small (written position bytes)
       (written-is (drop 16 (b .body)) bytes position (fileSize b) (omega (arith, behind-fields)) (omega (arith, behind-fields, s .fits)))
 
-  pub length-inside : (n : ℕ) → n ≤ room b → min n (fileSize b) + length (between b n) ≤ room b
+  pub length-inside : (n : ℕ) → n ≤ room b → min n (fileSize b) + length (gapTo b n) ≤ room b
   length-inside n l = omega (arith, length-zeroed (max n (fileSize b) - min n (fileSize b)), s .fits)
 
-  pub by-length : (n : ℕ) → n ≤ room b → Rewritten r b (rewritten b n (min n (fileSize b)) (between b n)) (resized n)
+  pub by-length : (n : ℕ) → n ≤ room b → Rewritten r b (rewritten b n (min n (fileSize b)) (gapTo b n)) (resized n)
   unfolding content
   by-length n l =
-      rewritten-file b n (min n (fileSize b)) (between b n) (s .whole) (length-inside n l) r s l small (resized n)
+      rewritten-file b n (min n (fileSize b)) (gapTo b n) (s .whole) (length-inside n l) r s l small (resized n)
       (resized-is (drop 16 (b .body)) (fileSize b) n (omega (arith, behind-fields, s .fits)) (omega (arith, behind-fields)))

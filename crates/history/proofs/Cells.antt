@@ -1,4 +1,4 @@
--- Slots and file bytes in the data of a block, as they are made and after a store.
+-- A directory's block with one slot set: its other slots and its parent stay.
 use Prim.Native.Nat.{_*_, _+_, _-_, _/_, _<_, _≤_, suc, zero, ℕ}
 use mathlib.Core.Bool.{true}
 use mathlib.Core.List.{List, [], _++_, _∷_, append-nil}
@@ -6,23 +6,17 @@ use mathlib.Core.Option.{some}
 use mathlib.Core.Path.{_∙_, _≡_, ap, ap₂, refl, sym}
 use native.Mathlib.Nat.{zero-add}
 use native.Mathlib.Omega.{arith}
-use lib.ListN.{drop, getD, getD-replicate, length, length-append, set, take}
-use Rattle.storage.specs.Bytes.{be32, be64, splice, u64At, zeroed}
+use lib.ListN.{getD, length, length-append, set}
+use Rattle.storage.specs.Bytes.{be64, splice, u64At}
 use Rattle.storage.proofs.Numbers.{be64-read, length-be64, u64-agree, u64-before, u64-behind, u64-right}
 use Rattle.storage.proofs.Splice.{length-splice, splice-inside}
 use Rattle.alloc.specs.Block.{Block}
 use Rattle.alloc.proofs.Data.{spliced}
-use Rattle.alloc.proofs.Releasing.{length-zeroed}
-use Rattle.alloc.proofs.Walks.{whole}
-use Rattle.tree.specs.Fields.{Slot, content, fileSize, isDir, isFile, parent, room, slotAt, slots, slotsFrom, total}
+use Rattle.tree.specs.Fields.{Slot, isDir, parent, slotAt, slots, slotsFrom, total}
 use Rattle.tree.proofs.Indexed.{slots-dir}
-use Rattle.changes.specs.Changing.{newDirectory, newFile}
 use Rattle.changes.proofs.Formatting.{inside}
-use Rattle.history.proofs.EmptyRow.{emptyRow}
-use Rattle.history.proofs.Nodes.{DirNode, FileNode, Node, slotsOf}
+use Rattle.history.proofs.Nodes.{DirNode, Node, slotsOf}
 use Rattle.history.proofs.Walks.{total-row}
-
--- ---- a slot set
 
 -- slot i of a directory with these refs in it
 abbrev pub slotted : Block → ℕ → ℕ → ℕ → Block
@@ -102,46 +96,3 @@ slotted-node {d} {up} {b} {c} i n o l p q e h =
       parent = slotted-parent b i n o t ∙ h .parent;
       slots = slotted-slots b i n o t p q (h .isDir) ∙ ap (λ (l : List Slot). set l i (n, o)) (h .slots) ∙ sym e;
     }
-
--- ---- new blocks
-
-zero-byte : (i : ℕ) → i < 8 → 0 ≡ getD (be64 0 ++ []) (0 + i) 0
-unfolding be64 be32
-zero-byte i l = sym (ap (λ (m : ℕ). getD (zeroed 8) m 0) (zero-add i) ∙ getD-replicate 8 i 0 0 l)
-
-zero-read : (n p : ℕ) → p + 8 ≤ n → u64At (zeroed n) p ≡ 0
-zero-read n p h =
-    u64-agree (zeroed n) (be64 0 ++ []) p 0 (λ i l. getD-replicate n (p + i) 0 0 (omega arith) ∙ zero-byte i l) ∙ be64-read 0 [] (omega arith)
-
-module _ (d k : ℕ) where
-  length-directory : length (newDirectory d k .body) ≡ 8 + 16 * k
-  length-directory = omega (arith, length-append (be64 d) (zeroed (16 * k)), length-be64 d, length-zeroed (16 * k))
-
-  pub new-parent : d < 18446744073709551616 → parent (newDirectory d k) ≡ d
-  new-parent h = be64-read d (zeroed (16 * k)) h
-
-  empty-at : (i : ℕ) → i < k → slotAt (newDirectory d k) i ≡ (0, 0)
-  empty-at i h =
-      let u : (p : ℕ) → p + 8 ≤ 16 * k → u64At (newDirectory d k .body) (8 + p) ≡ 0 =
-      λ p l. u64-right (be64 d) (zeroed (16 * k)) p (8 + p) (ap (λ (m : ℕ). m + p) (length-be64 d)) ∙ zero-read (16 * k) p l in
-      let e : 16 + 16 * i ≡ 8 + (8 + 16 * i) = omega arith in
-      ap₂ (λ (x y : ℕ). (x, y)) (u (16 * i) (omega arith)) (ap (u64At (newDirectory d k .body)) e ∙ u (8 + 16 * i) (omega arith))
-
-  empty-from : (j m : ℕ) → j + m ≤ k → slotsFrom (newDirectory d k) j m ≡ slotsOf (emptyRow m)
-  unfolding slotsFrom
-  empty-from j zero h = refl
-  empty-from j (suc m) h = ap₂ (λ (x : Slot) (l : List Slot). x ∷ l) (empty-at j (omega arith)) (empty-from (j + 1) m (omega arith))
-
-  pub new-slots : slots (newDirectory d k) ≡ slotsOf (emptyRow k)
-  new-slots =
-      let t : total (newDirectory d k) ≡ k = omega (arith, length-directory) in
-      slots-dir (newDirectory d k) refl ∙ ap (slotsFrom (newDirectory d k) 0) t ∙ empty-from 0 k (omega arith)
-
-pub new-file : (r m : ℕ) → 0 < r → FileNode r (newFile m) × (room (newFile m) ≡ m) × (content (newFile m) ≡ [])
-unfolding content
-new-file r m h =
-    let l : length (newFile m .body) ≡ 16 + m = length-zeroed (16 + m) in
-    let z : fileSize (newFile m) ≡ 0 = zero-read (16 + m) 0 (omega arith) in
-    (record { some = h; isFile = refl; fits = omega arith; reserved = zero-read (16 + m) 8 (omega arith); whole = omega arith },
-    omega arith,
-    ap (λ (x : ℕ). take x (drop 16 (newFile m .body))) z)

@@ -7,6 +7,7 @@ pub mod Moves
 pub mod EmptyRow
 pub mod Onward
 pub mod Cells
+pub mod NewBlocks
 pub mod Bodies
 pub mod Sights
 pub mod Edits
@@ -17,3 +18,6 @@ pub mod LastName
 pub mod Beginning
 pub mod Sighted
 pub mod MakeStep
+pub mod RemoveStep
+pub mod BytesStep
+pub mod FormatStep

@@ -1,7 +1,7 @@
 -- A new object in the lowest empty slot of a row, and of the book.
 use Prim.Native.Nat.{_+_, _<_, _≤_, max, ℕ}
 use mathlib.Core.Bool.{Bool, _||_, false, true, true≢false}
-use mathlib.Core.List.{List, [], _∷_}
+use mathlib.Core.List.{List, _∷_}
 use mathlib.Core.Option.{Option, none, some}
 use mathlib.Core.Path.{_∙_, _≡_, ap, refl, subst, sym}
 use native.Mathlib.Omega.{arith}
@@ -9,25 +9,16 @@ use lib.ListN.{length, set}
 use Rattle.storage.specs.Bytes.{same}
 use Rattle.storage.proofs.Compare.{same-eq, same-refl}
 use Rattle.alloc.specs.Block.{Block}
-use Rattle.tree.specs.Fields.{Slot, content, isDir, room}
+use Rattle.tree.specs.Fields.{Slot, content, room}
 use Rattle.calls.specs.Walk.{onward}
-use Rattle.changes.specs.Changing.{New, directory, newBlock}
+use Rattle.changes.specs.Changing.{New, directory}
 use Rattle.history.specs.Book.{added, dirSlot, fileSlot, keep}
-use Rattle.history.proofs.Cells.{new-file, new-parent, new-slots}
 use Rattle.history.proofs.EmptyRow.{empty-book, empty-height, empty-stands, empty-sum, emptyRow}
-use Rattle.history.proofs.Nodes.{DirNode, FileNode, NameNode, Node, Stands, bookOf, dir, empty, end, file, height, named, slotsOf, sumOf}
+use Rattle.history.proofs.NewBlocks.{NewNode}
+use Rattle.history.proofs.Nodes.{NameNode, Node, Stands, bookOf, dir, empty, end, file, height, named, slotsOf, sumOf}
 use Rattle.history.proofs.Onward.{onward-none, onward-some}
 use Rattle.history.proofs.Sums.{Item}
 use Rattle.history.proofs.Walks.{indexEmpty, indexNamed}
-
--- what the block of a new object says
-abbrev pub NewNode : New → ℕ → ℕ → Block → Type 0
-NewNode (directory k) up o b = DirNode o up b (emptyRow k)
-NewNode (New.file m) up o b = FileNode o b × (room b ≡ m) × (content b ≡ [])
-
-pub new-node : (k : New) (d o : ℕ) → d < 18446744073709551616 → 0 < o → NewNode k d o (newBlock k d)
-new-node (directory k) d o h p = record { some = p; isDir = refl; parent = new-parent d k h; slots = new-slots d k }
-new-node (New.file m) d o h p = new-file o m p
 
 -- ---- names
 

@@ -7,25 +7,21 @@ use mathlib.Core.Path.{_∙_, _≡_, refl, subst, sym}
 use native.Mathlib.Omega.{arith}
 use lib.ListN.{length, length-append}
 use borrow.Author.Tests.{eq-eqb}
-use Rattle.storage.specs.Bytes.{be64, zeroed}
+use Rattle.storage.specs.Bytes.{be64}
 use Rattle.storage.proofs.Numbers.{length-be64}
 use Rattle.path.specs.Name.{validName}
 use Rattle.path.specs.Path.{allButLast}
-use Rattle.path.proofs.Paths.{name-length}
-use Rattle.alloc.specs.Block.{Block, SFde, SFre}
+use Rattle.alloc.specs.Block.{Block}
 use Rattle.alloc.specs.Room.{PlacedPair, placePair}
 use Rattle.alloc.specs.Sound.{SoundExtent, SoundVolume}
-use Rattle.alloc.specs.Tiling.{otherKind}
 use Rattle.alloc.specs.Volume.{Volume, allocated, image, objects, volumeOf}
 use Rattle.alloc.proofs.Heads.{volume}
-use Rattle.alloc.proofs.Releasing.{length-zeroed}
 use Rattle.tree.specs.Fields.{isName}
 use Rattle.tree.proofs.Formed.{dir-there}
 use Rattle.tree.proofs.Rows.{counted}
 use Rattle.calls.specs.Reading.{blockIn}
 use Rattle.calls.specs.Walk.{emptySlot, lastName, slotNamed}
-use Rattle.changes.specs.Changing.{Made, New, allowed, directory, fillSlot, make, makeAt, makeIn, newBlock, newName, setSlot, unmade, withRoot}
-use Rattle.changes.proofs.Making.{name-object, new-object}
+use Rattle.changes.specs.Changing.{Made, New, allowed, fillSlot, make, makeAt, makeIn, newBlock, newName, setSlot, unmade, withRoot}
 use Rattle.history.specs.Book.{Tree, added, inDirectory}
 use Rattle.history.specs.History.{atLast}
 use Rattle.history.proofs.Beginning.{above-cases}
@@ -33,25 +29,15 @@ use Rattle.history.proofs.Cells.{slotted, slotted-node}
 use Rattle.history.proofs.Edits.{Exchange, edited}
 use Rattle.history.proofs.Good.{Good}
 use Rattle.history.proofs.LastName.{at-last, before-few, last-name}
-use Rattle.history.proofs.MakeEdit.{new-node, not-named, put}
+use Rattle.history.proofs.MakeEdit.{not-named, put}
 use Rattle.history.proofs.Moves.{Has, Move, pair-move, ref-within, updated-move}
+use Rattle.history.proofs.NewBlocks.{block-sound, name-sound, new-node}
 use Rattle.history.proofs.Nodes.{Among, NameNode, Node, aDir, height, named, seek}
 use Rattle.history.proofs.Refs.{refs-once}
 use Rattle.history.proofs.Sighted.{Answered, counted-has, good-volume, kept-edited, kept-refused, reached-directory, sought-seen, sought-weight}
 use Rattle.history.proofs.Sights.{Seen}
 use Rattle.history.proofs.Sums.{here, sum-this-le, this}
 use Rattle.history.proofs.Walks.{empty-row, indexEmpty, named-row, total-row}
-
--- ---- new blocks are sound
-
-name-sound : (w : List ℕ) → validName w ≡ true → SoundExtent (allocated (newName w))
-name-sound w v = let l = name-length w v in (name-object {w = w} (record { least = l .0; most = l .1 }) .kind, refl)
-
-block-sound : (k : New) (d : ℕ) → allowed k ≡ true → SoundExtent (allocated (newBlock k d))
-block-sound (directory k) d a =
-    let l : length (newBlock (directory k) d .body) ≡ 8 + 16 * k = omega (arith, length-append (be64 d) (zeroed (16 * k)), length-be64 d, length-zeroed (16 * k)) in
-    (subst (λ (m : ℕ). otherKind SFde m ≡ true) (sym l) (new-object (directory k) a .kind), refl)
-block-sound (New.file m) d a = (subst (λ (l : ℕ). otherKind SFre l ≡ true) (sym (length-zeroed (16 + m))) (new-object (New.file m) a .kind), refl)
 
 here-self : (r : ℕ) (b : Block) → here r (r, b) ≡ 1
 here-self r b = rw (eq-eqb r r refl)

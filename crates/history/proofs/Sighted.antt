@@ -17,6 +17,7 @@ use Rattle.tree.proofs.Formed.{dir-there, file-there}
 use Rattle.tree.proofs.Rows.{counted}
 use Rattle.calls.specs.Reading.{blockIn}
 use Rattle.calls.specs.Walk.{reached, walkFrom, walked}
+use Rattle.changes.specs.Changing.{Outcome}
 use Rattle.history.specs.Book.{Tree}
 use Rattle.history.proofs.Edits.{Edited}
 use Rattle.history.proofs.Good.{Good}
@@ -30,6 +31,9 @@ use Rattle.history.proofs.Walks.{file-not, walk-is}
 
 abbrev pub Answered : ℕ → Tree → Option Tree → ℕ → List ℕ → Type 0
 Answered n t t′ m s = (u : Tree) × (cond (eqb m 0) t′ (some t) ≡ some u) × Good n s u
+
+abbrev pub AnsweredBy : ℕ → Tree → Option Tree → Outcome → Type 0
+AnsweredBy n t t′ o = Answered n t t′ (o .refusal) (o .image)
 
 module _ {n : ℕ} {s : List ℕ} {t : Tree} (g : Good n s t) where
   abbrev os : Objects
