@@ -21,3 +21,4 @@ pub mod MakeStep
 pub mod RemoveStep
 pub mod BytesStep
 pub mod FormatStep
+pub mod Calls
