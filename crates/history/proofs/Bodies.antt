@@ -2,7 +2,6 @@
 use Prim.Native.Nat.{_+_, _-_, _<_, _≤_, max, min, suc, zero, ℕ}
 use mathlib.Core.Bool.{Bool, false, true}
 use mathlib.Core.List.{List, [], _++_, _∷_, append-assoc, append-nil}
-use mathlib.Core.Option.{some}
 use mathlib.Core.Path.{_∙_, _≡_, ap, ap₂, refl, sym}
 use native.Mathlib.Nat.{sub-zero, zero-add, zero-sub}
 use native.Mathlib.Omega.{arith}
@@ -16,9 +15,7 @@ use Rattle.storage.proofs.Splice.{length-splice, splice-right}
 use Rattle.alloc.specs.Block.{Block}
 use Rattle.alloc.proofs.Data.{spliced}
 use Rattle.alloc.proofs.Releasing.{length-zeroed}
-use Rattle.alloc.proofs.Walks.{whole}
-use Rattle.tree.specs.Fields.{content, fileSize, isFile, room}
-use Rattle.changes.proofs.Formatting.{inside}
+use Rattle.tree.specs.Fields.{content, fileSize, room}
 use Rattle.history.specs.Book.{resized, written}
 use Rattle.history.proofs.Nodes.{FileNode}
 
@@ -32,6 +29,7 @@ pub record Rewritten (r : ℕ) (b x : Block) (f : List ℕ → List ℕ) : Type 
   pub same-room : room x ≡ room b
   pub bytes : content x ≡ f (content b)
 
+-- behind the fields
 drop-splice : (s x : List ℕ) (m j : ℕ) → m + j ≤ length s → drop m (splice s (m + j) x) ≡ splice (drop m s) j x
 drop-splice s x m j h =
     let l : length (take m s) ≡ m = length-take-le m s (omega arith) in
@@ -135,6 +133,7 @@ module _ (d x : List ℕ) (p size : ℕ) (inside : p + length x ≤ length d) (f
       regroup : (u z x r : List ℕ) → u ++ ((z ++ x) ++ r) ≡ ((u ++ z) ++ x) ++ r
       regroup u z x r = simp append-assoc
 
+  -- either way: what the store makes is what the book says
   written-is : take (max size (p + length x)) (splice d (min p size) (zeroed (p - min p size) ++ x)) ≡ written p x (take size d)
   unfolding written
   written-is = go (leb p size) refl
@@ -153,6 +152,7 @@ module _ (d x : List ℕ) (p size : ℕ) (inside : p + length x ≤ length d) (f
           let b : max size (p + length x) ≡ p + length x = omega arith in
           rw (a, b, long) (past h)
 
+-- zeros between the old end and the new
 resized-is : (d : List ℕ) (size n : ℕ) → size ≤ length d → n ≤ length d
     → take n (splice d (min n size) (zeroed (max n size - min n size))) ≡ resized n (take size d)
 unfolding resized splice
@@ -190,6 +190,7 @@ module _ (r : ℕ) (b : Block) (s : FileNode r b) (small : length (b .body) < 42
   behind-fields : length (drop 16 (b .body)) ≡ room b
   behind-fields = length-drop 16 (b .body)
 
+  -- a write lies within the room, and the file has its bytes then
   pub write-inside : (position : ℕ) (bytes : List ℕ) → position + length bytes ≤ room b → min position (fileSize b) + length (gapThen b position bytes) ≤ room b
   write-inside position bytes l =
       let g = min position (fileSize b) in
@@ -203,6 +204,7 @@ module _ (r : ℕ) (b : Block) (s : FileNode r b) (small : length (b .body) < 42
       (write-inside position bytes l) r s (omega (arith, s .fits)) small (written position bytes)
       (written-is (drop 16 (b .body)) bytes position (fileSize b) (omega (arith, behind-fields)) (omega (arith, behind-fields, s .fits)))
 
+  -- so does a set length
   pub length-inside : (n : ℕ) → n ≤ room b → min n (fileSize b) + length (gapTo b n) ≤ room b
   length-inside n l = omega (arith, length-zeroed (max n (fileSize b) - min n (fileSize b)), s .fits)
 

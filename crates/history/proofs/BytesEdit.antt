@@ -24,6 +24,7 @@ module _ (w : List ℕ) (r : ℕ) (b x : Block) (f : List ℕ → List ℕ) (y :
     pub low : height row ≡ height c
     pub book : changed w f (bookOf c) ≡ some (bookOf row)
 
+  -- in the slot with the name
   pub swap : (up : ℕ) (c : Node) → Stands up c → childAt w (atFile []) (seek []) c ≡ aFile r b → Swapped up c
   unfolding changed
   swap up end s e = let z : _≡_ {A = ℕ} 0 1 = cc in absurd (omega arith)

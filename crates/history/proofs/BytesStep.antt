@@ -19,9 +19,8 @@ use Rattle.alloc.specs.Sound.{SoundVolume}
 use Rattle.alloc.specs.Volume.{Volume, image, objects, volumeOf}
 use Rattle.alloc.proofs.Data.{spliced}
 use Rattle.alloc.proofs.Heads.{volume}
-use Rattle.tree.specs.Fields.{fileSize, isDir, isFile, room, slots}
+use Rattle.tree.specs.Fields.{fileSize, isFile, room}
 use Rattle.tree.proofs.Formed.{file-there}
-use Rattle.tree.proofs.Rows.{counted}
 use Rattle.calls.specs.Reading.{blockIn}
 use Rattle.calls.specs.Walk.{lastName, reached, walkFrom}
 use Rattle.changes.specs.Changing.{setLength, setLengthAt, setLengthOf, unchanged, write, writeAt, writeTo}
@@ -73,6 +72,7 @@ module _ {n : ℕ} {s : List ℕ} {t : Tree} (g : Good n s t) (path : List ℕ) 
   -- its block changed, and its bytes by f
   module _ (x : Block) (f : List ℕ → List ℕ) (y : Rewritten r b x f) {v : Volume} (k : SoundVolume n v) (q : v .root ≡ volumeOf s .root)
       (sums : (h : Item → ℕ) → sum h (objects v) + h (r, b) ≡ sum h (objects (volumeOf s)) + h (r, x)) where
+    -- in its directory
     in-holder : (ws : List (List ℕ)) (w : List ℕ) → Holder (seek ws (volumeOf s .root) (g .block) (g .node)) w r b
         → Answered n t (inDirectory ws (changed w f) t) 0 (image v)
     in-holder ws w h =
@@ -101,6 +101,7 @@ module _ {n : ℕ} {s : List ℕ} {t : Tree} (g : Good n s t) (path : List ℕ) 
             subst (λ (t′ : Option Tree). Answered n t t′ 0 (image v)) (sym (at-last path w ws c (λ w. changed w f) t))
             (in-holder (allButLast (w ∷ ws)) (lastName path) (file-holder (lastName path) r b (allButLast (w ∷ ws)) (volumeOf s .root) (g .block) (g .node) i))
 
+  -- by a write, and by a set length
   written-kept : (position y : ℕ) (ys : List ℕ) → position + length (y ∷ ys) ≤ room b
       → AnsweredBy n t (atLast (λ w. changed w (written position (y ∷ ys))) path t) (changing.written s r position (y ∷ ys))
   written-kept position y ys l =

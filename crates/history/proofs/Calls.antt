@@ -26,6 +26,7 @@ unchanging : {n : ℕ} {s : List ℕ} {t : Tree} → Good n s t → (q : Bool) �
 unchanging {n} {s} {t} g true = (t, refl, g)
 unchanging {n} {s} {t} g false = (t, refl, g)
 
+-- format, accepted or refused
 format-kept : {n : ℕ} {s : List ℕ} {t : Tree} → Good n s t → (k : ℕ)
     → Left n (changing.format s k .image) (cond (eqb (changing.format s k .refusal) 0) (some (emptySlots k)) (some t))
 format-kept {n} {s} {t} g k = go (eqb (changing.format s k .refusal) 0) refl
@@ -36,6 +37,7 @@ format-kept {n} {s} {t} g k = go (eqb (changing.format s k .refusal) 0) refl
         (emptySlots k, refl, subst (λ (m : ℕ). Good m (changing.format s k .image) (emptySlots k)) (g .long) f)
     go false e = (t, refl, subst (λ (u : List ℕ). Good n u t) (sym (format-same s k e)) g)
 
+-- one call
 pub kept : (n : ℕ) (s : List ℕ) (t : Tree) (c : Call) → Good n s t → Left n (step s c .image) (cond (step s c .accepted) (booked t c) (some t))
 unfolding step booked
 kept n s t (format k) g = format-kept g k
@@ -50,6 +52,7 @@ kept n s t (setLength p m) g = length-kept g p m
 kept n s t (remove p) g = remove-kept g p
 kept n s t (listing lent) g = unchanging g (eqb (list s lent .refusal) 0)
 
+-- a list of calls
 pub kept-all : (n : ℕ) (s : List ℕ) (t : Tree) (cs : List Call) → Good n s t
     → let a = history (record { image = s; book = some t }) cs in Left n (a .image) (a .book)
 unfolding history

@@ -2,7 +2,6 @@
 use Prim.Native.Nat.{_*_, _+_, _-_, _/_, _<_, _≤_, suc, zero, ℕ}
 use mathlib.Core.Bool.{true}
 use mathlib.Core.List.{List, [], _++_, _∷_, append-nil}
-use mathlib.Core.Option.{some}
 use mathlib.Core.Path.{_∙_, _≡_, ap, ap₂, refl, sym}
 use native.Mathlib.Nat.{zero-add}
 use native.Mathlib.Omega.{arith}
@@ -14,7 +13,6 @@ use Rattle.alloc.specs.Block.{Block}
 use Rattle.alloc.proofs.Data.{spliced}
 use Rattle.tree.specs.Fields.{Slot, isDir, parent, slotAt, slots, slotsFrom, total}
 use Rattle.tree.proofs.Indexed.{slots-dir}
-use Rattle.changes.proofs.Formatting.{inside}
 use Rattle.history.proofs.Nodes.{DirNode, Node, slotsOf}
 use Rattle.history.proofs.Walks.{total-row}
 
@@ -29,12 +27,14 @@ module _ (b : Block) (i n o : ℕ) (inside : i < total b) where
   fits : 8 + 16 * i + length (be64 n ++ be64 o) ≤ length (b .body)
   fits = omega (arith, length-pair n o)
 
+  -- the size stays, and the parent
   pub slotted-length : length (slotted b i n o .body) ≡ length (b .body)
   slotted-length = length-splice (b .body) (be64 n ++ be64 o) (8 + 16 * i) fits
 
   pub slotted-parent : parent (slotted b i n o) ≡ parent b
   slotted-parent = u64-before (b .body) (be64 n ++ be64 o) (8 + 16 * i) fits 0 (omega arith)
 
+  -- so do the slots before it and behind it
   before : (j : ℕ) → j < i → slotAt (slotted b i n o) j ≡ slotAt b j
   before j h =
       let u = u64-before (b .body) (be64 n ++ be64 o) (8 + 16 * i) fits in
@@ -45,7 +45,6 @@ module _ (b : Block) (i n o : ℕ) (inside : i < total b) where
       let u = u64-behind (b .body) (be64 n ++ be64 o) (8 + 16 * i) fits in
       ap₂ (λ (x y : ℕ). (x, y)) (u (8 + 16 * j) (omega (arith, length-pair n o))) (u (16 + 16 * j) (omega (arith, length-pair n o)))
 
-  -- the slots behind it
   rest : (j k : ℕ) → i < j → slotsFrom (slotted b i n o) j k ≡ slotsFrom b j k
   unfolding slotsFrom
   rest j zero h = refl
@@ -77,6 +76,7 @@ module _ (b : Block) (i n o : ℕ) (inside : i < total b) where
     set-from j (suc m) (suc k) e h =
         ap₂ (λ (x : Slot) (l : List Slot). x ∷ l) (before j (omega arith)) (set-from (j + 1) m k (omega arith) (omega arith))
 
+    -- the slots are as before, but for this one
     pub slotted-slots : isDir b ≡ true → slots (slotted b i n o) ≡ set (slots b) i (n, o)
     slotted-slots d =
         let t : total (slotted b i n o) ≡ total b = ap (λ (x : ℕ). (x - 8) / 16) slotted-length in

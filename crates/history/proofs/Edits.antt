@@ -9,7 +9,7 @@ use lib.ListN.{length}
 use Rattle.storage.specs.Bytes.{same}
 use Rattle.alloc.specs.Block.{Block}
 use Rattle.alloc.specs.Volume.{Objects}
-use Rattle.tree.specs.Fields.{Slot, content, isDir, room}
+use Rattle.tree.specs.Fields.{Slot, content, room}
 use Rattle.history.specs.Book.{Tree, dirSlot, fileSlot, inChild, inDirectory, keep}
 use Rattle.history.proofs.Nodes.{DirNode, Node, Rep, Sought, Stands, aDir, atFile, bookOf, childAt, dir, empty, end, file, height, named, seek, slotsOf, sumOf}
 use Rattle.history.proofs.Sums.{Item, sum, times}
@@ -61,6 +61,7 @@ module _ {d : ℕ} {bd : Block} {cd : Node} {f : Tree → Option Tree} (x : Exch
     low : height row ≤ max (height c) (length ws + height (x .row))
     book : inDirectory ws f (bookOf c) ≡ some (bookOf row)
 
+  -- in a row, below the slot that the first component names
   edit-child : (w : List ℕ) (ws : List (List ℕ))
       → ((r up : ℕ) (b : Block) (c : Node) → seek ws r b c ≡ aDir d bd cd → DirNode r up b c → Stands r c → Edit ws r up b c)
       → (up : ℕ) (c : Node) → childAt w (atFile ws) (seek ws) c ≡ aDir d bd cd → Stands up c → RowEdit w ws up c
@@ -120,6 +121,7 @@ module _ {d : ℕ} {bd : Block} {cd : Node} {f : Tree → Option Tree} (x : Exch
             book = rw (inChild, i) (ap (keep (dirSlot (a .body) (bookOf c))) (k .book));
           }
 
+  -- along the components
   edit : (ws : List (List ℕ)) (r up : ℕ) (b : Block) (c : Node) → seek ws r b c ≡ aDir d bd cd → DirNode r up b c → Stands r c → Edit ws r up b c
   unfolding inDirectory
   edit [] r up b c e g s =

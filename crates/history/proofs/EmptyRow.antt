@@ -9,6 +9,7 @@ abbrev pub emptyRow : ℕ → Node
 emptyRow zero = end
 emptyRow (suc k) = empty (emptyRow k)
 
+-- its book, its sum, its height; and it stands
 pub empty-book : (k : ℕ) → bookOf (emptyRow k) ≡ emptySlots k
 unfolding emptySlots
 empty-book zero = refl

@@ -2,7 +2,7 @@
 use Prim.Native.Nat.{_*_, _+_, _-_, _/_, _≤_, suc, zero, ℕ}
 use mathlib.Core.Bool.{Bool, false, true, true≢false}
 use mathlib.Core.List.{List}
-use mathlib.Core.Path.{_∙_, _≡_, ap, refl, subst, sym}
+use mathlib.Core.Path.{_≡_, ap, refl, subst, sym}
 use native.Mathlib.Omega.{arith}
 use lib.Dec.{eqb, leb}
 use lib.ListN.{length}
@@ -25,6 +25,7 @@ use Rattle.history.proofs.Nodes.{Rep}
 use Rattle.history.proofs.Refs.{refs-once}
 use Rattle.history.proofs.Sums.{Item, sum}
 
+-- its volume is sound, with one object
 formatted-sound : (n k : ℕ) → lengthAllowed n ≡ true → within 1 1024 k ≡ true → 32 + 16 * units (newDirectory 2 k) ≤ n → SoundVolume n (formatted n k)
 unfolding formatted emptyVolume
 formatted-sound n k a b l =
@@ -46,6 +47,7 @@ record Accepted (s : List ℕ) (k : ℕ) : Type 0 where
   room-so : 32 + 16 * units (newDirectory 2 k) ≤ length s
   image-so : format s k .image ≡ image (formatted (length s) k)
 
+-- format, by its tests
 abbrev byTests : List ℕ → ℕ → Bool → Bool → Bool → Outcome
 byTests s k x y z = elim x [
   | false ↦ unchanged 1 s
@@ -57,30 +59,21 @@ unfolding format
 format-is s k = refl
 
 accepted : (s : List ℕ) (k : ℕ) → format s k .refusal ≡ 0 → Accepted s k
-accepted s k = go (lengthAllowed (length s)) (within 1 1024 k) (leb (32 + 16 * units (newDirectory 2 k)) (length s)) refl refl refl
+accepted s k h =
+    go (lengthAllowed (length s)) (within 1 1024 k) (leb (32 + 16 * units (newDirectory 2 k)) (length s)) refl refl refl (format-is s k)
   where
     go : (x y z : Bool) → lengthAllowed (length s) ≡ x → within 1 1024 k ≡ y → leb (32 + 16 * units (newDirectory 2 k)) (length s) ≡ z
-        → format s k .refusal ≡ 0 → Accepted s k
-    go x y z a b c h = by-tests x y z a b c (is ∙ ap₃ a b c) (ap (λ (o : Outcome). o .refusal) (sym (is ∙ ap₃ a b c)) ∙ h)
-      where
-        is : format s k ≡ byTests s k (lengthAllowed (length s)) (within 1 1024 k) (leb (32 + 16 * units (newDirectory 2 k)) (length s))
-        is = format-is s k
-
-        ap₃ : lengthAllowed (length s) ≡ x → within 1 1024 k ≡ y → leb (32 + 16 * units (newDirectory 2 k)) (length s) ≡ z
-            → byTests s k (lengthAllowed (length s)) (within 1 1024 k) (leb (32 + 16 * units (newDirectory 2 k)) (length s)) ≡ byTests s k x y z
-        ap₃ p q r = λ i. byTests s k (p i) (q i) (r i)
-
-        by-tests : (x y z : Bool) → lengthAllowed (length s) ≡ x → within 1 1024 k ≡ y → leb (32 + 16 * units (newDirectory 2 k)) (length s) ≡ z
-            → format s k ≡ byTests s k x y z → byTests s k x y z .refusal ≡ 0 → Accepted s k
-        by-tests true true true a b c e h = record { length-so = a; slots-so = b; room-so = leb-true _ _ c; image-so = ap (λ (o : Outcome). o .image) e }
-        by-tests true true false a b c e h = absurd (omega arith)
-        by-tests true false z a b c e h = absurd (omega arith)
-        by-tests false y z a b c e h = absurd (omega arith)
+        → format s k ≡ byTests s k x y z → Accepted s k
+    go true true true a b c e = record { length-so = a; slots-so = b; room-so = leb-true _ _ c; image-so = ap (λ (o : Outcome). o .image) e }
+    go true true false a b c e = absurd (omega (arith, ap (λ (o : Outcome). o .refusal) e))
+    go true false z a b c e = absurd (omega (arith, ap (λ (o : Outcome). o .refusal) e))
+    go false y z a b c e = absurd (omega (arith, ap (λ (o : Outcome). o .refusal) e))
 
 formatted-root : (n k : ℕ) → formatted n k .root ≡ 2
 unfolding formatted
 formatted-root n k = refl
 
+-- so the image holds the book
 pub formatted-good : (s : List ℕ) (k : ℕ) → format s k .refusal ≡ 0 → Good (length s) (format s k .image) (emptySlots k)
 formatted-good s k h =
     let a = accepted s k h in

@@ -28,12 +28,14 @@ last-valid [] v h = and-true (validName v) true h .0
 last-valid (d ∷ ds) v h = last-valid ds v (and-true (validName d) _ h .1)
 
 module _ (path w : List ℕ) (ws : List (List ℕ)) (c : components path ≡ w ∷ ws) where
+  -- of a path
   pub last-split : allButLast (w ∷ ws) ++ (lastName path ∷ []) ≡ w ∷ ws
   unfolding lastName
   last-split =
       ap (λ (vs : List (List ℕ)). allButLast (w ∷ ws) ++ (getD vs (length vs - 1) [] ∷ [])) c ∙ split-last w ws
 
   module _ (v : validPath path ≡ true) where
+    -- it is a valid name
     whole : allValid (allButLast (w ∷ ws) ++ (lastName path ∷ [])) ≡ true
     whole = ap allValid (last-split ∙ sym c) ∙ valid-components path v .0
 

@@ -5,7 +5,7 @@ pub mod Refs
 pub mod Walks
 pub mod Moves
 pub mod EmptyRow
-pub mod Onward
+pub mod Choices
 pub mod Cells
 pub mod NewBlocks
 pub mod Bodies

@@ -1,37 +1,23 @@
 -- A new object in the lowest empty slot of a row, and of the book.
 use Prim.Native.Nat.{_+_, _<_, _≤_, max, ℕ}
-use mathlib.Core.Bool.{Bool, _||_, false, true, true≢false}
+use mathlib.Core.Bool.{Bool, _||_, false, true}
 use mathlib.Core.List.{List, _∷_}
 use mathlib.Core.Option.{Option, none, some}
 use mathlib.Core.Path.{_∙_, _≡_, ap, refl, subst, sym}
 use native.Mathlib.Omega.{arith}
 use lib.ListN.{length, set}
 use Rattle.storage.specs.Bytes.{same}
-use Rattle.storage.proofs.Compare.{same-eq, same-refl}
 use Rattle.alloc.specs.Block.{Block}
 use Rattle.tree.specs.Fields.{Slot, content, room}
 use Rattle.calls.specs.Walk.{onward}
 use Rattle.changes.specs.Changing.{New, directory}
 use Rattle.history.specs.Book.{added, dirSlot, fileSlot, keep}
+use Rattle.history.proofs.Choices.{onward-none, onward-some, or-false, same-other}
 use Rattle.history.proofs.EmptyRow.{empty-book, empty-height, empty-stands, empty-sum, emptyRow}
 use Rattle.history.proofs.NewBlocks.{NewNode}
 use Rattle.history.proofs.Nodes.{NameNode, Node, Stands, bookOf, dir, empty, end, file, height, named, slotsOf, sumOf}
-use Rattle.history.proofs.Onward.{onward-none, onward-some}
 use Rattle.history.proofs.Sums.{Item}
 use Rattle.history.proofs.Walks.{indexEmpty, indexNamed}
-
--- ---- names
-
-same-other : (v w : List ℕ) → same v w ≡ false → same w v ≡ false
-same-other v w h = go (same w v) refl
-  where
-    go : (q : Bool) → same w v ≡ q → q ≡ false
-    go false e = refl
-    go true e = absurd (true≢false (sym (same-refl v) ∙ ap (same v) (sym (same-eq w v e)) ∙ h))
-
-pub or-false : (p q : Bool) → (p || q) ≡ false → (p ≡ false) × (q ≡ false)
-or-false true q e = absurd (true≢false e)
-or-false false q e = (refl, e)
 
 -- no slot has the name
 pub not-named : (w : List ℕ) (c : Node) → indexNamed w c ≡ none → named w c ≡ false
@@ -91,6 +77,7 @@ module _ (k : New) (up n o : ℕ) (a b : Block) (name : NameNode n a) (new : New
         book = rw (e, h .1, h .2);
       }
 
+  -- in the lowest empty slot, where no slot has its name
   pub put : (c : Node) (i : ℕ) → indexEmpty c ≡ some i → named (a .body) c ≡ false → Stands up c → Put c i
   unfolding added
   put end i e l s = let z : _≡_ {A = ℕ} 0 1 = cc in absurd (omega arith)

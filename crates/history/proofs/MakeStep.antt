@@ -16,9 +16,7 @@ use Rattle.alloc.specs.Room.{PlacedPair, placePair}
 use Rattle.alloc.specs.Sound.{SoundExtent, SoundVolume}
 use Rattle.alloc.specs.Volume.{Volume, allocated, image, objects, volumeOf}
 use Rattle.alloc.proofs.Heads.{volume}
-use Rattle.tree.specs.Fields.{isName}
 use Rattle.tree.proofs.Formed.{dir-there}
-use Rattle.tree.proofs.Rows.{counted}
 use Rattle.calls.specs.Reading.{blockIn}
 use Rattle.calls.specs.Walk.{emptySlot, lastName, slotNamed}
 use Rattle.changes.specs.Changing.{Made, New, allowed, fillSlot, make, makeAt, makeIn, newBlock, newName, setSlot, unmade, withRoot}
@@ -46,15 +44,18 @@ here-self r b = rw (eq-eqb r r refl)
 
 module _ {n : ℕ} {v : Volume} (k : SoundVolume n v) {d : ℕ} {bd : Block} (h : Has v d bd) (a b : Block) (x : PlacedPair)
     (sa : SoundExtent (allocated a)) (sb : SoundExtent (allocated b)) (e : placePair a b (v .extents) ≡ some x) where
+  -- both blocks
   placed : Move n v (volume (v .root) (x .extents)) (λ f. 0) (λ f. f (x .name, a) + f (x .object, b))
   placed = pair-move k a b x sa sb e
 
+  -- their refs fit a slot
   name-ref : (0 < x .name) × (x .name < 18446744073709551616)
   name-ref = ref-within (placed .sound) (x .name) (omega (arith, placed .sums (here (x .name)), here-self (x .name) a))
 
   object-ref : (0 < x .object) × (x .object < 18446744073709551616)
   object-ref = ref-within (placed .sound) (x .object) (omega (arith, placed .sums (here (x .object)), here-self (x .object) b))
 
+  -- and the slot
   made-move : (i : ℕ) → 24 + 16 * i ≤ length (bd .body)
       → Move n v (volume (v .root) (setSlot d i (x .name) (x .object) (x .extents))) (λ f. f (d, bd))
       (λ f. f (x .name, a) + f (x .object, b) + f (d, slotted bd i (x .name) (x .object)))
@@ -80,6 +81,7 @@ module _ {n : ℕ} {s : List ℕ} {t : Tree} (g : Good n s t) (new : New) (bound
   has : Has (volumeOf s) d (blockIn s d)
   has = counted-has g d (blockIn s d) (dir-there (blockIn s d) (seen .0 .1 .isDir)) (λ f. omega (arith, sought-weight g ws (aDir d (blockIn s d) c) e f))
 
+  -- room was found
   filled : (i : ℕ) → indexEmpty c ≡ some i → named w c ≡ false → (x : PlacedPair) → placePair (newName w) (newBlock new d) (volumeOf s .extents) ≡ some x
       → Answered n t after 0 (image (withRoot s (setSlot d i (x .name) (x .object) (x .extents))))
   filled i ie nw x q =
@@ -103,6 +105,7 @@ module _ {n : ℕ} {s : List ℕ} {t : Tree} (g : Good n s t) (new : New) (bound
       kept-edited g (m .sound) refl (inDirectory ws (added w new))
       (edited y (g .rep) ws e (λ f. omega (arith, m .sums f, p .sums f)) (refs-once _) (omega (arith, p .low, seen .2, g .rep .low)))
 
+  -- or not
   fill-kept : (i : ℕ) → indexEmpty c ≡ some i → named w c ≡ false → AnsweredMade n t after (fillSlot s new w d i)
   unfolding fillSlot
   fill-kept i ie nw = go (placePair (newName w) (newBlock new d) (volumeOf s .extents)) refl
@@ -115,6 +118,7 @@ module _ {n : ℕ} {s : List ℕ} {t : Tree} (g : Good n s t) (new : New) (bound
       go none q = kept-refused g after 7
       go (some x) q = filled i ie nw x q
 
+  -- 6 and 7, or the lowest empty slot
   make-in : AnsweredMade n t after (makeIn s new w d)
   unfolding makeIn
   make-in = by-name (slotNamed (objects (volumeOf s)) (blockIn s d) w) refl

@@ -32,16 +32,19 @@ within-from r q (allocated b ∷ es) h = go (eqb q r) refl h (within-from r (q +
     go false e k f = let z = f (omega arith) in (omega arith, z .1)
 within-from r q (free u l ∷ es) h = let z = within-from r (q + u) es h in (omega arith, z .1)
 
+-- it fits a slot's field, and is not 0
 pub ref-within : {n : ℕ} {v : Volume} → SoundVolume n v → (r : ℕ) → 1 ≤ times r (objects v) → (0 < r) × (r < 18446744073709551616)
 unfolding objects
 ref-within {n} {v} k r h = let z = within-from r 2 (v .extents) h in (omega arith, omega (arith, k .extents .small))
 
 -- ---- one move: the sum loses some terms and gains others
 
+-- v becomes w, sound and of n bytes
 pub record Move (n : ℕ) (v w : Volume) (less more : (Item → ℕ) → ℕ) : Type 0 where
   pub sound : SoundVolume n w
   pub sums : (f : Item → ℕ) → sum f (objects w) + less f ≡ sum f (objects v) + more f
 
+-- sums of joined lists, and of lists with one entry more or another
 sum-append : (f : Item → ℕ) (xs ys : Objects) → sum f (xs ++ ys) ≡ sum f xs + sum f ys
 sum-append f [] ys = omega arith
 sum-append f (o ∷ xs) ys = omega (arith, sum-append f xs ys)
@@ -62,6 +65,7 @@ pub record Has (v : Volume) (t : ℕ) (b : Block) : Type 0 where
   pub real : 0 < b .magic
 
 module _ {v : Volume} {t : ℕ} {b : Block} (h : Has v t b) where
+  -- it is found there
   pub has-block : blockAt (objects v) t ≡ b
   has-block = looked-up (objects v) t b (h .counted) (refs-once v t)
 
@@ -99,6 +103,7 @@ module _ {n : ℕ} {v : Volume} (k : SoundVolume n v) where
 
 -- ---- a pair placed
 
+-- one block, then another
 two-sum : (f : Item → ℕ) (b c : Block) (es : List Extent) (x : Placed × Placed) → placeTwo b c es ≡ some x
     → sum f (objectsFrom 2 (x .1 .extents)) ≡ sum f (objectsFrom 2 es) + (f (x .0 .at, b) + f (x .1 .at, c))
 unfolding placeTwo
@@ -118,6 +123,7 @@ two-sum f b c es x e = first (place b 2 es) refl e
     first none h k = let z : _≡_ {A = ℕ} 0 1 = cc in absurd (omega arith)
     first (some y) h k = second y h (place c 2 (y .extents)) refl k
 
+-- in the order that their sizes tell
 pair-sum : (f : Item → ℕ) (a b : Block) (es : List Extent) (x : PlacedPair) → placePair a b es ≡ some x
     → sum f (objectsFrom 2 (x .extents)) ≡ sum f (objectsFrom 2 es) + (f (x .name, a) + f (x .object, b))
 unfolding placePair
@@ -142,6 +148,7 @@ pair-sum f a b es x e = go (ltb (units a) (units b)) e
     go true h = by-object (placeTwo b a es) refl h
     go false h = by-name (placeTwo a b es) refl h
 
+-- both are gained
 pub pair-move : {n : ℕ} {v : Volume} → SoundVolume n v → (a b : Block) (x : PlacedPair) → SoundExtent (allocated a) → SoundExtent (allocated b)
     → placePair a b (v .extents) ≡ some x → Move n v (volume (v .root) (x .extents)) (λ f. 0) (λ f. f (x .name, a) + f (x .object, b))
 unfolding objects

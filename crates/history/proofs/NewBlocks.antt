@@ -2,7 +2,6 @@
 use Prim.Native.Nat.{_*_, _+_, _<_, _≤_, suc, zero, ℕ}
 use mathlib.Core.Bool.{true}
 use mathlib.Core.List.{List, [], _++_, _∷_}
-use mathlib.Core.Option.{some}
 use mathlib.Core.Path.{_∙_, _≡_, ap, ap₂, refl, subst, sym}
 use native.Mathlib.Nat.{zero-add}
 use native.Mathlib.Omega.{arith}
@@ -16,14 +15,14 @@ use Rattle.alloc.specs.Sound.{SoundExtent}
 use Rattle.alloc.specs.Tiling.{otherKind}
 use Rattle.alloc.specs.Volume.{allocated}
 use Rattle.alloc.proofs.Releasing.{length-zeroed}
-use Rattle.alloc.proofs.Walks.{whole}
-use Rattle.tree.specs.Fields.{Slot, content, fileSize, isDir, isFile, parent, room, slotAt, slots, slotsFrom, total}
+use Rattle.tree.specs.Fields.{Slot, content, fileSize, parent, room, slotAt, slots, slotsFrom, total}
 use Rattle.tree.proofs.Indexed.{slots-dir}
 use Rattle.changes.specs.Changing.{New, allowed, directory, newBlock, newDirectory, newFile, newName}
 use Rattle.changes.proofs.Making.{name-object, new-object}
 use Rattle.history.proofs.EmptyRow.{emptyRow}
 use Rattle.history.proofs.Nodes.{DirNode, FileNode, slotsOf}
 
+-- zeros are read as 0
 zero-byte : (i : ℕ) → i < 8 → 0 ≡ getD (be64 0 ++ []) (0 + i) 0
 unfolding be64 be32
 zero-byte i l = sym (ap (λ (m : ℕ). getD (zeroed 8) m 0) (zero-add i) ∙ getD-replicate 8 i 0 0 l)
@@ -31,6 +30,8 @@ zero-byte i l = sym (ap (λ (m : ℕ). getD (zeroed 8) m 0) (zero-add i) ∙ get
 zero-read : (n p : ℕ) → p + 8 ≤ n → u64At (zeroed n) p ≡ 0
 zero-read n p h =
     u64-agree (zeroed n) (be64 0 ++ []) p 0 (λ i l. getD-replicate n (p + i) 0 0 (omega arith) ∙ zero-byte i l) ∙ be64-read 0 [] (omega arith)
+
+-- ---- a new directory in the directory d: its parent, and k empty slots
 
 module _ (d k : ℕ) where
   length-directory : length (newDirectory d k .body) ≡ 8 + 16 * k
@@ -56,16 +57,21 @@ module _ (d k : ℕ) where
       let t : total (newDirectory d k) ≡ k = omega (arith, length-directory) in
       slots-dir (newDirectory d k) refl ∙ ap (slotsFrom (newDirectory d k) 0) t ∙ empty-from 0 k (omega arith)
 
+-- ---- a new file: it stands, with its room and no bytes
+
 pub new-file : (r m : ℕ) → 0 < r → FileNode r (newFile m) × (room (newFile m) ≡ m) × (content (newFile m) ≡ [])
 unfolding content
 new-file r m h =
     let l : length (newFile m .body) ≡ 16 + m = length-zeroed (16 + m) in
-    let z : fileSize (newFile m) ≡ 0 = zero-read (16 + m) 0 (omega arith) in
-    (record { some = h; isFile = refl; fits = omega arith; reserved = zero-read (16 + m) 8 (omega arith); whole = omega arith },
-    omega arith,
-    ap (λ (x : ℕ). take x (drop 16 (newFile m .body))) z)
+    let z : fileSize (newFile m) ≡ 0 = zero-read (16 + m) 0 (omega arith) in (
+      record { some = h; isFile = refl; fits = omega arith; reserved = zero-read (16 + m) 8 (omega arith); whole = omega arith },
+      omega arith,
+      ap (λ (x : ℕ). take x (drop 16 (newFile m .body))) z,
+    )
 
--- what the block of a new object says
+-- ---- a new object
+
+-- what its block says
 abbrev pub NewNode : New → ℕ → ℕ → Block → Type 0
 NewNode (directory k) up o b = DirNode o up b (emptyRow k)
 NewNode (New.file m) up o b = FileNode o b × (room b ≡ m) × (content b ≡ [])
@@ -74,13 +80,11 @@ pub new-node : (k : New) (d o : ℕ) → d < 18446744073709551616 → 0 < o → 
 new-node (directory k) d o h p = record { some = p; isDir = refl; parent = new-parent d k h; slots = new-slots d k }
 new-node (New.file m) d o h p = new-file o m p
 
--- ---- new blocks are sound
+-- ---- they are sound
 
 pub name-sound : (w : List ℕ) → validName w ≡ true → SoundExtent (allocated (newName w))
 name-sound w v = let l = name-length w v in (name-object {w = w} (record { least = l .0; most = l .1 }) .kind, refl)
 
 pub block-sound : (k : New) (d : ℕ) → allowed k ≡ true → SoundExtent (allocated (newBlock k d))
-block-sound (directory k) d a =
-    let l : length (newBlock (directory k) d .body) ≡ 8 + 16 * k = omega (arith, length-append (be64 d) (zeroed (16 * k)), length-be64 d, length-zeroed (16 * k)) in
-    (subst (λ (m : ℕ). otherKind SFde m ≡ true) (sym l) (new-object (directory k) a .kind), refl)
+block-sound (directory k) d a = (subst (λ (m : ℕ). otherKind SFde m ≡ true) (sym (length-directory d k)) (new-object (directory k) a .kind), refl)
 block-sound (New.file m) d a = (subst (λ (l : ℕ). otherKind SFre l ≡ true) (sym (length-zeroed (16 + m))) (new-object (New.file m) a .kind), refl)

@@ -13,9 +13,8 @@ use Rattle.tree.proofs.Formed.{dir-there, file-there}
 use Rattle.tree.proofs.Indexed.{slots-other}
 use Rattle.calls.specs.Walk.{onward}
 use Rattle.history.specs.Book.{Tree, dirSlot, emptied, fileSlot, keep}
-use Rattle.history.proofs.MakeEdit.{or-false}
+use Rattle.history.proofs.Choices.{onward-some, or-false}
 use Rattle.history.proofs.Nodes.{NameNode, Node, Stands, bookOf, dir, empty, end, file, height, named, slotsOf, sumOf}
-use Rattle.history.proofs.Onward.{onward-some}
 use Rattle.history.proofs.Sums.{Item}
 use Rattle.history.proofs.Walks.{file-not, indexNamed, taken-some}
 
@@ -44,8 +43,8 @@ pub record Out (w : List ℕ) (up : ℕ) (c : Node) (i : ℕ) : Type 0 where
   pub low : height row ≤ height c
   pub book : emptied w (bookOf c) ≡ some (bookOf row)
 
--- behind a slot with another name
 module _ (w : List ℕ) (up : ℕ) where
+  -- behind a slot that is empty, a file's or a directory's with another name
   behind-empty : (t : Node) (j : ℕ) → Out w up t j → Out w up (empty t) (suc j)
   unfolding emptied
   behind-empty t j g = record {
@@ -91,6 +90,7 @@ module _ (w : List ℕ) (up : ℕ) where
     book = rw (emptied, q) (ap (keep (dirSlot (a .body) (bookOf c))) (g .book));
   }
 
+  -- from the slot with the name
   pub take-out : (c : Node) (i : ℕ) → indexNamed w c ≡ some i → Stands up c → Out w up c i
   unfolding emptied
   take-out end i e s = let z : _≡_ {A = ℕ} 0 1 = cc in absurd (omega arith)

@@ -18,7 +18,6 @@ use Rattle.alloc.specs.Volume.{Volume, image, objects, volumeOf}
 use Rattle.alloc.proofs.Heads.{volume}
 use Rattle.tree.specs.Fields.{Slot, slotAt, slots, takenCount, total}
 use Rattle.tree.proofs.Formed.{dir-there, name-there}
-use Rattle.tree.proofs.Rows.{counted}
 use Rattle.calls.specs.Reading.{blockIn}
 use Rattle.calls.specs.Walk.{lastName, slotNamed}
 use Rattle.changes.specs.Changing.{done, remove, removeAt, removeIn, removed, setSlot, unchanged, withRoot}
@@ -42,6 +41,7 @@ use Rattle.history.proofs.Walks.{named-row, slot-row, total-row}
 
 module _ {n : ℕ} {v : Volume} (k : SoundVolume n v) {d : ℕ} {bd : Block} (h : Has v d bd) (a b : Block) (la : 0 < a .magic) (lb : 0 < b .magic)
     (p q i : ℕ) (l : 24 + 16 * i ≤ length (bd .body)) (all : (f : Item → ℕ) → f (d, bd) + (f (p, a) + f (q, b)) ≤ sum f (objects v)) where
+  -- the slot, the name, the object
   cleared : Move n v (volume (v .root) (setSlot d i 0 0 (v .extents))) (λ f. f (d, bd)) (λ f. f (d, slotted bd i 0 0))
   cleared = updated-move k h (8 + 16 * i) (be64 0 ++ be64 0) (omega (arith, length-append (be64 0) (be64 0), length-be64 0))
 
@@ -77,17 +77,20 @@ module _ {n : ℕ} {s : List ℕ} {t : Tree} (g : Good n s t) (w : List ℕ)
     long : i < total (blockIn s d)
     long = omega (arith, total-row (blockIn s d) c (seen .0 .1 .isDir) (seen .0 .1 .slots), o .inside)
 
+    -- the slot names what the tree has there
     slot-is : slotAt (blockIn s d) i ≡ (x .name, x .ref)
     slot-is = sym (slot-row (blockIn s d) c (seen .0 .1 .isDir) (seen .0 .1 .slots) i long) ∙ o .slot
 
     object-is : blockIn s (x .ref) ≡ x .block
     object-is = has-block (counted-has g (x .ref) (x .block) (x .real) (λ f. omega (arith, all f, o .sums f)))
 
+    -- with no taken slot, nothing is below it
     bare : takenCount (slots (blockIn s (slotAt (blockIn s d) i .1))) ≡ 0 → (f : Item → ℕ) → sumOf f (x .below) ≡ 0
     bare z f =
         untaken-sum f (x .ref) (x .below) (x .below-stands)
         (ap takenCount (sym (x .below-slots)) ∙ ap (λ (b : Block). takenCount (slots b)) (sym object-is) ∙ ap (λ (y : Slot). takenCount (slots (blockIn s (y .1)))) (sym slot-is) ∙ z)
 
+    -- it is gone
     cut : takenCount (slots (blockIn s (slotAt (blockIn s d) i .1))) ≡ 0 → Answered n t after 0 (image (removed s d i))
     cut z =
         let m = removed-move (good-volume g) has (x .label) (x .block) (name-there (x .label) (x .named-so .isName)) (x .real) (x .name) (x .ref) i (omega (arith, long))
@@ -103,6 +106,7 @@ module _ {n : ℕ} {s : List ℕ} {t : Tree} (g : Good n s t) (w : List ℕ)
         (kept-edited g (m .sound) refl (inDirectory ws (emptied w))
         (edited y (g .rep) ws e (λ f. omega (arith, m .sums f, o .sums f, bare z f)) (refs-once _) (omega (arith, o .low, seen .2, g .rep .low))))
 
+  -- 3 and 9, or gone
   remove-in : AnsweredBy n t after (removeIn s w d)
   unfolding removeIn
   remove-in = by-name (slotNamed (objects (volumeOf s)) (blockIn s d) w) refl

@@ -14,7 +14,6 @@ use Rattle.alloc.specs.Volume.{Objects, Volume, image, objects, volumeOf}
 use Rattle.alloc.proofs.Soundness.{image-length, image-sound, image-volume}
 use Rattle.tree.specs.Fields.{isDir, isFile}
 use Rattle.tree.proofs.Formed.{dir-there, file-there}
-use Rattle.tree.proofs.Rows.{counted}
 use Rattle.calls.specs.Reading.{blockIn}
 use Rattle.calls.specs.Walk.{reached, walkFrom, walked}
 use Rattle.changes.specs.Changing.{Outcome}
@@ -50,18 +49,19 @@ module _ {n : ℕ} {s : List ℕ} {t : Tree} (g : Good n s t) where
 
   -- a changed volume, and its tree
   pub kept-edited : {w : Volume} → SoundVolume n w → w .root ≡ root → (f : Tree → Option Tree) → Edited (objects w) root (f (bookOf (g .node))) → Answered n t (f t) 0 (image w)
-  kept-edited {w} k e f x =
-      (bookOf (x .node),
-      ap f (sym (g .book)) ∙ x .book,
-      record {
-        sound = image-sound k;
-        long = image-length k;
-        block = x .block;
-        node = x .node;
-        rep = subst (λ (v : Volume). Rep (objects v) (v .root) (x .block) (x .node)) (sym (image-volume k))
-            (subst (λ (r : ℕ). Rep (objects w) r (x .block) (x .node)) (sym e) (x .rep));
-        book = refl;
-      })
+  kept-edited {w} k e f x = (
+    bookOf (x .node),
+    ap f (sym (g .book)) ∙ x .book,
+    record {
+      sound = image-sound k;
+      long = image-length k;
+      block = x .block;
+      node = x .node;
+      rep = subst (λ (v : Volume). Rep (objects v) (v .root) (x .block) (x .node)) (sym (image-volume k))
+          (subst (λ (r : ℕ). Rep (objects w) r (x .block) (x .node)) (sym e) (x .rep));
+      book = refl;
+    },
+  )
 
   -- what counts in every sum is an object
   pub counted-has : (r : ℕ) (b : Block) → 0 < b .magic → ((f : Item → ℕ) → f (r, b) ≤ sum f os) → Has (volumeOf s) r b

@@ -1,4 +1,4 @@
--- What stands at the end of components: its blocks are among the tree's and say what they should, and no tree is higher than the way to it.
+-- What stands at the end of components: its blocks are among the tree's, they say what they should, and the tree is as high as the way to it.
 use Prim.Native.Nat.{_+_, _≤_, suc, ℕ}
 use mathlib.Core.Bool.{Bool, false, true}
 use mathlib.Core.List.{List, [], _++_, _∷_}
@@ -38,6 +38,7 @@ weight-child f w ws ih (dir n r a b c t) =
     either (λ (x : Sought). weight f x ≤ f (n, a) + f (r, b) + (sumOf f c + sumOf f t)) (same (a .body) w) _ _
     (omega (arith, ih r b c)) (omega (arith, weight-child f w ws ih t))
 
+-- they count in the sums
 pub weight-seek : (f : Item → ℕ) (ws : List (List ℕ)) (r : ℕ) (b : Block) (c : Node) → weight f (seek ws r b c) ≤ f (r, b) + sumOf f c
 weight-seek f [] r b c = omega arith
 weight-seek f (w ∷ ws) r b c = omega (arith, weight-child f w ws (weight-seek f ws) c)
@@ -73,12 +74,14 @@ seen-child w ws ih up (dir n r a b c t) s =
     (seen-more (length ws) (height c) (suc (length ws)) (height (dir n r a b c t)) (omega arith) (seek ws r b c) (ih r up b c (s .1) (s .3)))
     (seen-more (suc (length ws)) (height t) (suc (length ws)) (height (dir n r a b c t)) (omega arith) (childAt w (atFile ws) (seek ws) t) (seen-child w ws ih up t (s .4)))
 
+-- what is sought is seen so
 pub seen-seek : (ws : List (List ℕ)) (r up : ℕ) (b : Block) (c : Node) → DirNode r up b c → Stands r c → Seen (length ws) (height c) (seek ws r b c)
 seen-seek [] r up b c d s = ((up, d), s, omega arith)
 seen-seek (w ∷ ws) r up b c d s = seen-child w ws (seen-seek ws) r c s
 
 -- ---- the directory above a file
 
+-- the directory at the end of components holds the file o by the name v
 pub record Holder (x : Sought) (v : List ℕ) (o : ℕ) (y : Block) : Type 0 where
   pub ref : ℕ
   pub block : Block
@@ -111,6 +114,7 @@ module _ (v : List ℕ) (o : ℕ) (y : Block) where
       go true e′ k = ih r b c e′
       go false e′ k = k e′
 
+  -- where all components lead to a file, those before the last lead to its holder
   pub file-holder : (ws : List (List ℕ)) (r : ℕ) (b : Block) (c : Node) → seek (ws ++ (v ∷ [])) r b c ≡ aFile o y → Holder (seek ws r b c) v o y
   file-holder [] r b c e = record { ref = r; block = b; row = c; found = refl; there = e }
   file-holder (w ∷ ws) r b c e = holder-child w ws (file-holder ws) c e
