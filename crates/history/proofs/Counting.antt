@@ -55,9 +55,10 @@ each-at : (os : Objects) (n : ℕ) (xs : Objects) → Rises n xs → ((r : ℕ) 
     → EveryObject (λ r b. blockAt os r ≡ b) xs
 unfolding blockAt
 each-at os n [] h e = tt
-each-at os n (o ∷ xs) h e =
-    (e (o .0) (h .0) ∙ rw (eq-eqb (o .0) (o .0) refl, blockAt),
-    each-at os (suc (o .0)) xs (h .1) (λ r l. e r (omega arith) ∙ rw (ne-eqb (o .0) r (λ q. omega arith), blockAt)))
+each-at os n (o ∷ xs) h e = (
+  e (o .0) (h .0) ∙ rw (eq-eqb (o .0) (o .0) refl, blockAt),
+  each-at os (suc (o .0)) xs (h .1) (λ r l. e r (omega arith) ∙ rw (ne-eqb (o .0) r (λ q. omega arith), blockAt)),
+)
 
 -- sums of weights that agree on what stands at each ref
 pub sum-at : (f g : Item → ℕ) (os : Objects) → Rises 2 os → ((r : ℕ) → f (r, blockAt os r) ≡ g (r, blockAt os r)) → sum f os ≡ sum g os
@@ -163,25 +164,36 @@ module _ (os : Objects) (rises : Rises 2 os) (f : Item → ℕ) where
           → pairOf f os s + pairsOf f os ss ≡ sum (λ o. f o * namings (o .0) (s ∷ ss)) os
       go (is-empty a b) k =
           let q : s ≡ (0, 0) = λ i. (a i, b i) in
-          rw q (omega (arith, k, pick-none f 0 os (times-below 2 0 os rises (omega arith)),
-          sum-split (λ o. f o * namings (o .0) ((0, 0) ∷ ss)) (λ o. f o * here 0 o) (λ o. f o * namings (o .0) ss) os
-          (λ o. two _ _ _ o (namings-one 0 (o .0) ss))))
+          rw q (omega (
+            arith,
+            k,
+            pick-none f 0 os (times-below 2 0 os rises (omega arith)),
+            sum-split (λ o. f o * namings (o .0) ((0, 0) ∷ ss)) (λ o. f o * here 0 o) (λ o. f o * namings (o .0) ss) os
+                (λ o. two _ _ _ o (namings-one 0 (o .0) ss)),
+          ))
       go (is-taken a b c d) k =
           rw (taken-some (s .0) (s .1) b)
-          (omega (arith, k,
-          pick f (s .0) os (one-at (s .0)) (there os (s .0) (formed.name-there (blockAt os (s .0)) c)),
-          pick f (s .1) os (one-at (s .1)) (object-there os s d),
-          sum-split (λ o. f o * namings (o .0) (s ∷ ss)) (λ o. f o * here (s .0) o + f o * here (s .1) o) (λ o. f o * namings (o .0) ss) os
-          (λ o. three _ _ _ _ o (namings-two (s .0) (s .1) (o .0) ss (apart os s c d))),
-          sum-split (λ o. f o * here (s .0) o + f o * here (s .1) o) (λ o. f o * here (s .0) o) (λ o. f o * here (s .1) o) os (λ o. refl)))
+          (omega (
+            arith,
+            k,
+            pick f (s .0) os (one-at (s .0)) (there os (s .0) (formed.name-there (blockAt os (s .0)) c)),
+            pick f (s .1) os (one-at (s .1)) (object-there os s d),
+            sum-split (λ o. f o * namings (o .0) (s ∷ ss)) (λ o. f o * here (s .0) o + f o * here (s .1) o) (λ o. f o * namings (o .0) ss) os
+                (λ o. three _ _ _ _ o (namings-two (s .0) (s .1) (o .0) ss (apart os s c d))),
+            sum-split (λ o. f o * here (s .0) o + f o * here (s .1) o) (λ o. f o * here (s .0) o) (λ o. f o * here (s .1) o) os (λ o. refl),
+          ))
 
   all-named : (xs : Objects) → EveryObject (λ r b. Every (SlotStands os) (slots b)) xs → sum (kids f os) xs ≡ sum (λ o. f o * allNamings (o .0) xs) os
   unfolding allNamings
   all-named [] h = sym (sum-none (λ o. f o * 0) os (λ o. omega arith))
   all-named (x ∷ xs) h =
-      omega (arith, row-named (slots (x .1)) (h .0), all-named xs (h .1),
-      sum-split (λ o. f o * (namings (o .0) (slots (x .1)) + allNamings (o .0) xs)) (λ o. f o * namings (o .0) (slots (x .1)))
-      (λ o. f o * allNamings (o .0) xs) os (λ o. two _ _ _ o refl))
+      omega (
+        arith,
+        row-named (slots (x .1)) (h .0),
+        all-named xs (h .1),
+        sum-split (λ o. f o * (namings (o .0) (slots (x .1)) + allNamings (o .0) xs)) (λ o. f o * namings (o .0) (slots (x .1)))
+            (λ o. f o * allNamings (o .0) xs) os (λ o. two _ _ _ o refl),
+      )
 
   module _ (root : ℕ) where
     -- rule 4: named once, but the root
@@ -207,7 +219,10 @@ module _ (os : Objects) (rises : Rises 2 os) (f : Item → ℕ) where
     pub named-sum : isDir (blockAt os root) ≡ true → EveryObject (Keeps rule3 os root) os → EveryObject (Keeps rule4 os root) os
         → sum f os ≡ f (root, blockAt os root) + sum (kids f os) os
     named-sum d h3 h4 =
-        omega (arith, all-counted os h4,
-        all-named os (every-map (λ o. Keeps rule3 os root (o .0) (o .1)) (λ o. Every (SlotStands os) (slots (o .1))) os
-        (λ o. slots-every (SlotStands os) (o .1)) h3),
-        pick f root os (one-at root) (there os root (formed.dir-there (blockAt os root) d)))
+        omega (
+          arith,
+          all-counted os h4,
+          all-named os (every-map (λ o. Keeps rule3 os root (o .0) (o .1)) (λ o. Every (SlotStands os) (slots (o .1))) os
+              (λ o. slots-every (SlotStands os) (o .1)) h3),
+          pick f root os (one-at root) (there os root (formed.dir-there (blockAt os root) d)),
+        )

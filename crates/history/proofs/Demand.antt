@@ -11,7 +11,7 @@ use Rattle.history.specs.Book.{emptySlots}
 use Rattle.history.specs.Claim.{Bytes, Claim, EveryHistory, Follows, FromFormat}
 use Rattle.history.specs.History.{After, Call, history, step}
 use Rattle.history.specs.TreeOf.{treeOf}
-use Rattle.history.proofs.Calls.{Left, kept-all}
+use Rattle.history.proofs.Calls.{kept, Left, kept-all}
 use Rattle.history.proofs.Claims.{claim}
 use Rattle.history.proofs.FormatStep.{formatted-good}
 use Rattle.history.proofs.Holds.{good-formed}

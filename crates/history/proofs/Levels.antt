@@ -115,7 +115,6 @@ fewest os root (suc k) r h = go (eqb r root) refl (fewest os root k (parent (blo
 
 module _ (os : Objects) (root : ℕ) (rises : Rises 2 os) (top : RootStands os root) (rules : (n : BlockRule) → EveryObject (Keeps n os root) os)
     (whole : (r : ℕ) → isFile (blockAt os r) ≡ true → 16 ≤ length (blockAt os r .body)) where
-
   -- a rule, of a directory
   of-dirs : (n : BlockRule) (r : ℕ) → isDir (blockAt os r) ≡ true → Keeps n os root r (blockAt os r)
   of-dirs n r d = every-at (Keeps n os root) os (rules n) r (formed.dir-there (blockAt os r) d)
@@ -131,14 +130,16 @@ module _ (os : Objects) (root : ℕ) (rises : Rises 2 os) (top : RootStands os r
   deep : (r : ℕ) → isDir (blockAt os r) ≡ true → (d : ℕ) × Deep r d
   deep r e =
       let c = of-dirs rule5 r e e in
-      let x = fewest os root (c .depth) r (c .climbs) in
-      (x .steps, record {
-        is-dir = e;
-        climbs = x .climbs;
-        least = x .least;
-        low = omega (arith, c .low, x .few);
-        holder = λ i l t. omega (arith, c .holder i l t, x .few);
-      })
+      let x = fewest os root (c .depth) r (c .climbs) in (
+        x .steps,
+        record {
+          is-dir = e;
+          climbs = x .climbs;
+          least = x .least;
+          low = omega (arith, c .low, x .few);
+          holder = λ i l t. omega (arith, c .holder i l t, x .few);
+        },
+      )
 
   -- a taken slot of the directory r: a directory in it has r as its parent, and is one step deeper
   record SubDir (r d o : ℕ) : Type 0 where
@@ -318,8 +319,12 @@ module _ (os : Objects) (root : ℕ) (rises : Rises 2 os) (top : RootStands os r
       let g : Item → ℕ = reach 17 f in
       let e : sum g os ≡ sum (λ o. f o + kids g os o) os =
       sum-at g (λ o. f o + kids g os o) os rises (λ r. ap (λ (n : ℕ). f (r, blockAt os r) + n) (level f r)) in
-      omega (arith, e, sum-split (λ o. f o + kids g os o) f (kids g os) os (λ o. refl),
-      named-sum os rises g root (top .is-dir) (rules rule3) (rules rule4))
+      omega (
+        arith,
+        e,
+        sum-split (λ o. f o + kids g os o) f (kids g os) os (λ o. refl),
+        named-sum os rises g root (top .is-dir) (rules rule3) (rules rule4),
+      )
 
   root-deep : Deep root 0
   root-deep = record {

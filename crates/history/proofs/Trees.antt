@@ -31,19 +31,19 @@ book-row os sub tub h (s ∷ ss) = go (taken s) (isDir (blockAt os (s .1))) (boo
   where
     go : (p q : Bool) → bookOf (rowOf os sub ss) ≡ treeRow os tub ss
         → bookOf (elim p as (λ _. Node) [
-            | false ↦ empty (rowOf os sub ss)
-            | true ↦ elim q as (λ _. Node) [
-              | false ↦ file (s .0) (s .1) (blockAt os (s .0)) (blockAt os (s .1)) (rowOf os sub ss)
-              | true ↦ dir (s .0) (s .1) (blockAt os (s .0)) (blockAt os (s .1)) (sub (s .1)) (rowOf os sub ss)
-            ]
-          ])
-        ≡ elim p as (λ _. Tree) [
-            | false ↦ Tree.empty (treeRow os tub ss)
-            | true ↦ elim q as (λ _. Tree) [
-              | false ↦ fileSlot (blockAt os (s .0) .body) (room (blockAt os (s .1))) (content (blockAt os (s .1))) (treeRow os tub ss)
-              | true ↦ dirSlot (blockAt os (s .0) .body) (tub (s .1)) (treeRow os tub ss)
-            ]
+          | false ↦ empty (rowOf os sub ss)
+          | true ↦ elim q as (λ _. Node) [
+            | false ↦ file (s .0) (s .1) (blockAt os (s .0)) (blockAt os (s .1)) (rowOf os sub ss)
+            | true ↦ dir (s .0) (s .1) (blockAt os (s .0)) (blockAt os (s .1)) (sub (s .1)) (rowOf os sub ss)
           ]
+        ])
+        ≡ elim p as (λ _. Tree) [
+          | false ↦ Tree.empty (treeRow os tub ss)
+          | true ↦ elim q as (λ _. Tree) [
+            | false ↦ fileSlot (blockAt os (s .0) .body) (room (blockAt os (s .1))) (content (blockAt os (s .1))) (treeRow os tub ss)
+            | true ↦ dirSlot (blockAt os (s .0) .body) (tub (s .1)) (treeRow os tub ss)
+          ]
+        ]
     go false q e = ap Tree.empty e
     go true false e = rw e
     go true true e = rw (e, h (s .1))
