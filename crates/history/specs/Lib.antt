@@ -1,0 +1,4 @@
+pub mod Book
+pub mod History
+pub mod TreeOf
+pub mod Claim
