@@ -43,7 +43,7 @@ pub struct Found {
 }
 
 // The kind of the object at `r`.
-fn kind_at(image: &[u8], r: Ref) -> Kind
+pub fn kind_at(image: &[u8], r: Ref) -> Kind
     requires { ⌜ ObjectAt (now image) (r .0) ⌝ }
     ensures { λ k. ⌜ kindIs k ≡ kindOf (blockIn (now (image .entry)) (r .0)) ⌝ }
 {

@@ -29,7 +29,7 @@ objects-few r [] = omega arith
 objects-few r (allocated b ∷ es) = omega (arith, objects-few (r + units b) es)
 objects-few r (free u left ∷ es) = omega (arith, objects-few (r + u) es)
 
-pub lines-few : (n : ℕ) (s : List ℕ) (t : Tree) → Good n s t → 16 * length (linesOf s) ≤ length s
+pub lines-within : (n : ℕ) (s : List ℕ) (t : Tree) → Good n s t → 16 * length (linesOf s) ≤ length s
 unfolding linesOf objects
-lines-few n s t g =
+lines-within n s t g =
     omega (arith, ap length (root-lines (objects (volumeOf s)) (volumeOf s .root) (g .block) (g .node) (g .rep)), row-few (volumeOf s .root) 1 (g .node), g .rep .alike one, objects-few 2 (volumeOf s .extents), g .sound .volume .long)

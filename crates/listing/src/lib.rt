@@ -1,0 +1,4 @@
+// The listing.
+
+pub mod lines;
+pub mod seek;
