@@ -1,0 +1,5 @@
+// The listing of a card whose free chain is damaged.
+
+fn main() {
+    lister::run();
+}

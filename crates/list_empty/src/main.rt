@@ -1,0 +1,5 @@
+// The listing of a card with nothing on it.
+
+fn main() {
+    lister::run();
+}

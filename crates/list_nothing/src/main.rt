@@ -1,0 +1,5 @@
+// The listing of no input at all.
+
+fn main() {
+    lister::run();
+}
