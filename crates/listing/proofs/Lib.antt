@@ -1,2 +1,4 @@
 pub mod Seeking
 pub mod Few
+pub mod Stored
+pub mod Call
