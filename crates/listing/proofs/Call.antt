@@ -1,16 +1,18 @@
 -- The call's three outcomes: 1, 14 and all lines.
+use Rattle.listing.specs.declared.lines.Line as declared-line
 use Prim.Native.Nat.{_<_, _≤_, ℕ}
 use mathlib.Core.Bool.{Bool, cond, false, true}
-use mathlib.Core.List.{List, _++_, map}
+use mathlib.Core.List.{List, [], _++_, map}
 use mathlib.Core.Path.{_∙_, _≡_, ap, refl, sym}
 use native.Mathlib.Omega.{arith}
 use lib.Dec.{eqb, leb}
-use lib.ListN.{drop, length, length-map}
+use lib.ListN.{drop, length, length-map, length-replicate, replicate, take}
+use lib.Seq.{take-all}
 use borrow.Author.Tests.{eq-eqb, le-leb, leb-true, lt-leb, ne-eqb}
 use Rattle.tree.specs.Verdict.{wellFormed}
-use Rattle.listing.specs.declared.lines.Line as declared-line
-use Rattle.listing.specs.Answers.{AnswersFor, Fillable, Lists, filled, lineIs}
 use Rattle.calls.specs.Listing.{Line, Listed, linesOf, list}
+use Rattle.history.proofs.Counting.{there}
+use Rattle.listing.specs.Answers.{AnswersFor, Fillable, Lists, filled, lineIs, noLine}
 use Rattle.listing.proofs.Stored.{filled-tells}
 
 module _ (s : List ℕ) (lent : List Line) where
@@ -62,9 +64,10 @@ module _ (s : List ℕ) (lent : List declared-line.Line) {r c n : ℕ} (w : Answ
   refused : (a : Listed) → list s (told-row lent) ≡ a → (a .refusal ≡ 0 → ⊥) → a .lines ≡ (told-row lent) → Outcome s lent r c n
   refused a e z l =
       let x : r ≡ a .refusal = numbers .0 ∙ ap (λ (y : Listed). y .refusal) e in
-      let o : n ≡ 0 = m ∙ rw (ne-eqb r 0 (λ q. z (sym x ∙ q))) in
-      (record { fits = omega arith; formed = λ h. absurd (omega arith); there = omega arith },
-      record { refusal-is = numbers .0; count-is = numbers .1; lines-are = ap (λ (k : ℕ). map lineIs (filled s k lent)) o ∙ sym l ∙ ap (λ (y : Listed). y .lines) (sym e) })
+      let o : n ≡ 0 = m ∙ rw (ne-eqb r 0 (λ q. z (sym x ∙ q))) in (
+        record { fits = omega arith; formed = λ h. absurd (omega arith); there = omega arith },
+        record { refusal-is = numbers .0; count-is = numbers .1; lines-are = ap (λ (k : ℕ). map lineIs (filled s k lent)) o ∙ sym l ∙ ap (λ (y : Listed). y .lines) (sym e) },
+      )
 
   done : wellFormed s ≡ true → leb (length (linesOf s)) (length (told-row lent)) ≡ true → Outcome s lent r c n
   done f g =
@@ -73,9 +76,10 @@ module _ (s : List ℕ) (lent : List declared-line.Line) {r c n : ℕ} (w : Answ
       let k : c ≡ length (linesOf s) = numbers .1 ∙ ap (λ (y : Listed). y .count) e in
       let o : n ≡ length (linesOf s) = m ∙ rw (eq-eqb r 0 x) k in
       let h = leb-true (length (linesOf s)) (length (told-row lent)) g in
-      let q = length-map lent lineIs in
-      (record { fits = omega arith; formed = λ _. f; there = omega arith },
-      record { refusal-is = numbers .0; count-is = numbers .1; lines-are = filled-tells s lent n o ∙ ap (λ (k : ℕ). linesOf s ++ drop k (told-row lent)) o ∙ ap (λ (y : Listed). y .lines) (sym e) })
+      let q = length-map lent lineIs in (
+        record { fits = omega arith; formed = λ _. f; there = omega arith },
+        record { refusal-is = numbers .0; count-is = numbers .1; lines-are = filled-tells s lent n o ∙ ap (λ (k : ℕ). linesOf s ++ drop k (told-row lent)) o ∙ ap (λ (y : Listed). y .lines) (sym e) },
+      )
 
   pub outcome : Outcome s lent r c n
   outcome = go (wellFormed s) (leb (length (linesOf s)) (length (told-row lent))) refl refl
@@ -84,3 +88,39 @@ module _ (s : List ℕ) (lent : List declared-line.Line) {r c n : ℕ} (w : Answ
       go false q f g = refused _ (list-broken s (told-row lent) f) (λ z. omega arith) refl
       go true false f g = refused _ (list-short s (told-row lent) f g) (λ z. omega arith) refl
       go true true f g = done f g
+
+-- ---- how many lines are told, and which
+
+module _ {s : List ℕ} {m r c n : ℕ} (w : AnswersFor s m r c) (q : n ≡ cond (eqb r 0) c 0) where
+  abbrev blank : List Line
+  blank = replicate m noLine
+
+  told-by : (a : Listed) → list s blank ≡ a → (r ≡ a .refusal) × (c ≡ a .count)
+  told-by a e =
+      let x = w .answers blank (length-replicate m noLine) in
+      (x .0 ∙ ap (λ (l : Listed). l .refusal) e, x .1 ∙ ap (λ (l : Listed). l .count) e)
+
+  abbrev Tells : Type 0
+  Tells = Fillable s n m × (take n (linesOf s) ≡ cond (eqb r 0) (linesOf s) [])
+
+  tells-none : (r ≡ 0 → ⊥) → Tells
+  tells-none z =
+      let e = ne-eqb r 0 z in
+      let o : n ≡ 0 = q ∙ rw e in
+      (record { fits = omega arith; formed = λ h. absurd (omega arith); there = omega arith }, ap (λ (k : ℕ). take k (linesOf s)) o ∙ sym (rw e))
+
+  tells-all : wellFormed s ≡ true → r ≡ 0 → c ≡ length (linesOf s) → length (linesOf s) ≤ m → Tells
+  tells-all f z k h =
+      let e = eq-eqb r 0 z in
+      let o : n ≡ length (linesOf s) = q ∙ rw e k in
+      (record { fits = omega arith; formed = λ _. f; there = omega arith }, take-all n (linesOf s) (omega arith) ∙ sym (rw e))
+
+  pub tells : Tells
+  tells = go (wellFormed s) (leb (length (linesOf s)) (length blank)) refl refl
+    where
+      go : (x y : Bool) → wellFormed s ≡ x → leb (length (linesOf s)) (length blank) ≡ y → Tells
+      go false y f g = let a = told-by _ (list-broken s blank f) in tells-none (λ z. omega (arith, a .0))
+      go true false f g = let a = told-by _ (list-short s blank f g) in tells-none (λ z. omega (arith, a .0))
+      go true true f g =
+          let a = told-by _ (list-all s blank f g) in
+          tells-all f (a .0) (a .1) (omega (arith, leb-true (length (linesOf s)) (length blank) g, length-replicate m noLine))

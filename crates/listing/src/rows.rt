@@ -22,7 +22,7 @@ pub struct Listed {
 }
 
 // Line `i`.
-fn line_at(image: &[u8], i: usize) -> Line
+pub fn line_at(image: &[u8], i: usize) -> Line
     requires { ⌜ (wellFormed (now image) ≡ true) × (i < length (linesOf (now image))) ⌝ }
     ensures { λ l. ⌜ l ≡ lineNo (now (image .entry)) i ⌝ }
 {
@@ -40,7 +40,7 @@ fn line_at(image: &[u8], i: usize) -> Line
 }
 
 // The answer where so many lines are lent.
-fn answer(image: &[u8], lent: usize) -> Listed
+pub fn answer(image: &[u8], lent: usize) -> Listed
     ensures { λ a. ⌜ AnswersFor (now (image .entry)) lent (a .refusal) (a .count) ⌝ }
 {
     if tree::verdict::judge(image).rule != 0 {
@@ -57,7 +57,7 @@ fn answer(image: &[u8], lent: usize) -> Listed
 }
 
 // How many lines are filled: on a refusal none.
-fn to_fill(a: Listed) -> usize
+pub fn to_fill(a: Listed) -> usize
     ensures { λ n. ⌜ n ≡ cond (eqb (a .refusal) 0) (a .count) 0 ⌝ }
 {
     if a.refusal != 0 {

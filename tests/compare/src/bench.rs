@@ -4,6 +4,7 @@ use crate::call::{Call, Outcome};
 use crate::compare::Bout;
 use crate::coverage::Coverage;
 use crate::model::layout::*;
+use crate::model::list::{show, LINE, LONGEST_SHOWN};
 
 type Verdict = Result<(), String>;
 type Step<'a> = dyn FnMut(&mut Vec<u8>, &Call) -> Result<Outcome, String> + 'a;
@@ -25,6 +26,8 @@ fn run_with(step: &mut Step) -> Verdict {
         detached,
         larger_first,
         regrown,
+        listed,
+        shown,
     ];
     cases.iter().try_for_each(|case| case(&mut Bench { step, image: Vec::new() }))
 }
@@ -89,6 +92,33 @@ impl Bench<'_, '_> {
         let found = self.expect(Call::ReadPoint { path: path.into(), number }, refusal, &[])?;
         if found.buffer != point {
             return Err(format!("point {number} of {path} is {:?}, not {point:?}", found.buffer));
+        }
+        Ok(())
+    }
+
+    /// The lines, into these and so many numbers more; what is left of them is as before.
+    fn lists(&mut self, lines: &[[u64; LINE]], more: usize) -> Verdict {
+        let lent = vec![0x7777; LINE * lines.len() + more];
+        let found = self.expect(Call::List { lent }, 0, &[lines.len() as u64])?;
+        if found.lines != [lines.concat(), vec![0x7777; more]].concat() {
+            return Err(format!("lines {:?}, not {lines:?} and {more} numbers more", found.lines));
+        }
+        Ok(())
+    }
+
+    /// No lines, from so many lent numbers.
+    fn lists_none(&mut self, numbers: usize, refusal: u8, count: u64) -> Verdict {
+        let found = self.expect(Call::List { lent: vec![0x7777; numbers] }, refusal, &[count])?;
+        if found.lines != vec![0x7777; numbers] {
+            return Err(format!("a refused listing changed lines: {:?}", found.lines));
+        }
+        Ok(())
+    }
+
+    fn shows(&self, text: &str) -> Verdict {
+        let found = show(&self.image);
+        if found != text.as_bytes() {
+            return Err(format!("shows {:?}, not {text:?}", found.escape_ascii().to_string()));
         }
         Ok(())
     }
@@ -274,6 +304,44 @@ fn regrown(bench: &mut Bench) -> Verdict {
     bench.write("/f", 22, b"z", 0)?;
     bench.holds("/f", &[&[0; 22][..], b"z"].concat())?;
     bench.number(content + 24, 0x9999_9999_9999_9999)
+}
+
+/// The card of 256 bytes after /heel and /a are made, listed.
+fn listed(bench: &mut Bench) -> Verdict {
+    bench.new_card(256, 2, 0)?;
+    bench.lists(&[[2, 2, 0, 0, 1, 0, 2]], 0)?;
+    bench.make_file("/heel", 32, 0, 5)?;
+    bench.make_directory("/a", 1, 0, 10)?;
+    let lines = [[2, 2, 0, 0, 1, 2, 2], [5, 2, 9, 1, 0, 0, 32], [10, 2, 12, 1, 1, 0, 1]];
+    for more in [0, 1, 6, 7, 20] {
+        bench.lists(&lines, more)?;
+    }
+    for numbers in [0, 6, 7, 14, 20] {
+        bench.lists_none(numbers, 14, 3)?;
+    }
+    bench.remove("/heel", 0)?;
+    bench.make_file("/a/b", 40, 0, 5)?;
+    bench.write("/a/b", 0, b"abc", 0)?;
+    bench.lists(&[[2, 2, 0, 0, 1, 1, 2], [10, 2, 12, 1, 1, 1, 1], [5, 10, 9, 2, 0, 3, 40]], 2)?;
+    bench.image[0] = 0;
+    bench.lists_none(0, 1, 0)?;
+    bench.lists_none(30, 1, 0)
+}
+
+/// The same card as text, and what is refused.
+fn shown(bench: &mut Bench) -> Verdict {
+    bench.new_card(256, 2, 0)?;
+    bench.make_file("/heel", 32, 0, 5)?;
+    bench.make_directory("/a", 1, 0, 10)?;
+    bench.shows("image 256 free 3\n2 d 2/2 /\n5 f 0/32 /heel\n10 d 0/1 /a\n")?;
+    bench.image[0] = 0;
+    bench.shows("refused 1\n")?;
+    bench.new_card(64, 1, 0)?;
+    bench.shows("image 64 free 0\n2 d 0/1 /\n")?;
+    bench.new_card(LONGEST_SHOWN, 1, 0)?;
+    bench.shows("image 65536 free 4092\n2 d 0/1 /\n")?;
+    bench.new_card(LONGEST_SHOWN + 16, 1, 0)?;
+    bench.shows("refused 1\n")
 }
 
 #[test]

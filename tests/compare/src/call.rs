@@ -1,6 +1,6 @@
 //! A call with its arguments as values, and what comes of it.
 
-use crate::model::calls;
+use crate::model::{calls, list};
 use std::fmt;
 
 #[derive(Clone, Debug)]
@@ -15,10 +15,11 @@ pub enum Call {
     Write { path: Vec<u8>, position: u64, bytes: Vec<u8> },
     SetLength { path: Vec<u8>, length: u64 },
     Remove { path: Vec<u8> },
+    List { lent: Vec<u64> },
 }
 
 /// Names of the calls, by `Call::index`.
-pub const CALLS: [&str; 10] = [
+pub const CALLS: [&str; 11] = [
     "format",
     "check",
     "find",
@@ -29,10 +30,11 @@ pub const CALLS: [&str; 10] = [
     "write",
     "set length",
     "remove",
+    "list",
 ];
 
 /// The answers that each call can give, by `Call::index`.
-pub const ANSWERS: [&[u8]; 10] = [
+pub const ANSWERS: [&[u8]; 11] = [
     &[0, 1, 8, 10],
     &[0, 1],
     &[0, 1, 2, 3, 4],
@@ -43,6 +45,7 @@ pub const ANSWERS: [&[u8]; 10] = [
     &[0, 1, 2, 3, 4, 5, 12],
     &[0, 1, 2, 3, 4, 5, 12],
     &[0, 1, 2, 3, 4, 9, 11],
+    &[0, 1, 14],
 ];
 
 impl Call {
@@ -58,6 +61,7 @@ impl Call {
             Call::Write { .. } => 7,
             Call::SetLength { .. } => 8,
             Call::Remove { .. } => 9,
+            Call::List { .. } => 10,
         }
     }
 }
@@ -79,21 +83,23 @@ impl fmt::Display for Call {
                 write!(out, " \"{}\" at {position}, {} bytes", path.escape_ascii(), bytes.len())
             }
             Call::SetLength { path, length } => write!(out, " \"{}\" length {length}", path.escape_ascii()),
+            Call::List { lent } => write!(out, ", {} numbers lent", lent.len()),
         }
     }
 }
 
-/// The answer's number, its out numbers, and the lent buffer or the point afterwards.
+/// The answer's number, its out numbers, and the lent buffer, the point or the lent lines afterwards.
 #[derive(Clone, PartialEq, Eq, Debug)]
 pub struct Outcome {
     pub refusal: u8,
     pub numbers: Vec<u64>,
     pub buffer: Vec<u8>,
+    pub lines: Vec<u64>,
 }
 
 impl Outcome {
     fn of<T>(result: Result<T, u8>, numbers: Vec<u64>, buffer: Vec<u8>) -> Outcome {
-        Outcome { refusal: result.err().unwrap_or(0), numbers, buffer }
+        Outcome { refusal: result.err().unwrap_or(0), numbers, buffer, lines: Vec::new() }
     }
 
     fn alone(result: Result<(), u8>) -> Outcome {
@@ -102,6 +108,14 @@ impl Outcome {
 
     fn made(result: Result<u64, u8>) -> Outcome {
         Outcome::of(result, vec![result.unwrap_or(0)], Vec::new())
+    }
+
+    fn listed(answer: Result<u64, (u8, u64)>, lines: Vec<u64>) -> Outcome {
+        let (refusal, count) = match answer {
+            Ok(count) => (0, count),
+            Err(told) => told,
+        };
+        Outcome { refusal, numbers: vec![count], buffer: Vec::new(), lines }
     }
 }
 
@@ -132,5 +146,10 @@ pub fn on_model(image: &mut [u8], call: &Call) -> Outcome {
         Call::Write { path, position, bytes } => Outcome::alone(calls::write(image, path, *position, bytes)),
         Call::SetLength { path, length } => Outcome::alone(calls::set_length(image, path, *length)),
         Call::Remove { path } => Outcome::alone(calls::remove(image, path)),
+        Call::List { lent } => {
+            let mut lines = lent.clone();
+            let answer = list::list(image, &mut lines);
+            Outcome::listed(answer, lines)
+        }
     }
 }

@@ -4,6 +4,8 @@ use crate::call::{on_model, Call, Outcome};
 use crate::coverage::Coverage;
 use crate::library::on_library;
 use crate::model::check::broken_rule;
+use crate::model::layout::{get64, FIRST_FREE};
+use crate::model::list::{FIELDS, LINE};
 
 /// Runs calls on both, and counts them.
 pub struct Bout<'a> {
@@ -28,11 +30,21 @@ impl<'a> Bout<'a> {
         let before = image.clone();
         let wanted = on_model(image, call);
         self.coverage.count_call(call.index(), wanted.refusal);
+        if let Call::List { lent } = call {
+            self.count_list(image, lent.len(), &wanted);
+        }
         match self.difference(&before, image, call, &wanted) {
             None => Ok(wanted),
             Some(what) => {
                 Err(format!("call {}, {call}, on an image of {} bytes: {what}", self.calls, before.len()))
             }
+        }
+    }
+
+    fn count_list(&mut self, image: &[u8], numbers: usize, wanted: &Outcome) {
+        if wanted.refusal != 1 {
+            let full = get64(image, FIRST_FREE) == 0;
+            self.coverage.count_list(numbers, wanted.numbers[0] as usize, full);
         }
     }
 
@@ -50,7 +62,9 @@ impl<'a> Bout<'a> {
         if found.numbers != wanted.numbers {
             return Some(format!("numbers {:?}, model {:?}", found.numbers, wanted.numbers));
         }
-        unlike("buffer", &found.buffer, &wanted.buffer).or_else(|| unlike("image", &image, after))
+        unlike("buffer", &found.buffer, &wanted.buffer)
+            .or_else(|| unlike_lines(&found.lines, &wanted.lines))
+            .or_else(|| unlike("image", &image, after))
     }
 }
 
@@ -69,6 +83,16 @@ fn unlike(what: &str, found: &[u8], wanted: &[u8]) -> Option<String> {
     let (unit, pos) = (at / 16, at % 16);
     Some(format!(
         "{what}: {count} bytes differ, first byte {at} (unit {unit}, pos {pos}): {:02x}, model {:02x}",
+        found[at], wanted[at]
+    ))
+}
+
+fn unlike_lines(found: &[u64], wanted: &[u64]) -> Option<String> {
+    let at = (0..found.len()).find(|&at| found[at] != wanted[at])?;
+    let count = (0..found.len()).filter(|&at| found[at] != wanted[at]).count();
+    let (line, field) = (at / LINE, FIELDS[at % LINE]);
+    Some(format!(
+        "lines: {count} numbers differ, first number {at} (line {line}, {field}): {}, model {}",
         found[at], wanted[at]
     ))
 }

@@ -1,10 +1,14 @@
 //! What the histories have met.
 
 use crate::call::{ANSWERS, CALLS};
+use crate::model::list::LINE;
 use std::collections::BTreeSet;
 
 const NUMBERS: usize = 15;
 const SIZES: [usize; 6] = [256, 1024, 4096, 65_536, 1_048_576, usize::MAX];
+
+/// How many lines a listing is lent, against those that it needs.
+const LENT: [&str; 5] = ["none", "too few", "one too few", "just enough", "more"];
 
 #[derive(Default)]
 pub struct Coverage {
@@ -19,6 +23,10 @@ pub struct Coverage {
     pub most_free_blocks: usize,
     pub most_objects: usize,
     pub full_cards: u64,
+    lent: [u64; LENT.len()],
+    lent_over: u64,
+    listed_full: u64,
+    most_lines: usize,
 }
 
 impl Coverage {
@@ -44,12 +52,30 @@ impl Coverage {
         self.full_cards += u64::from(free_blocks == 0);
     }
 
+    /// A listing of a well-formed image.
+    pub fn count_list(&mut self, numbers: usize, needed: usize, full: bool) {
+        let class = match numbers / LINE {
+            0 => 0,
+            lines if lines + 1 < needed => 1,
+            lines if lines < needed => 2,
+            lines if lines == needed => 3,
+            _ => 4,
+        };
+        self.lent[class] += 1;
+        self.lent_over += u64::from(numbers % LINE > 0);
+        self.listed_full += u64::from(full);
+        if class > 2 {
+            self.most_lines = self.most_lines.max(needed);
+        }
+    }
+
     pub fn calls_in_all(&self) -> u64 {
         self.calls.iter().flatten().sum()
     }
 
     pub fn print(&self) {
         self.print_calls();
+        self.print_lists();
         self.print_images();
         let damaged: u64 = self.broken.iter().sum();
         println!("damaged images {damaged}; by the first rule broken:");
@@ -64,15 +90,24 @@ impl Coverage {
         );
     }
 
+    fn print_lists(&self) {
+        print!("listings by lines lent:");
+        for (what, count) in LENT.iter().zip(self.lent) {
+            print!(" {what} {count},");
+        }
+        println!(" with numbers over {}", self.lent_over);
+        println!("most lines listed {}, listings of full cards {}", self.most_lines, self.listed_full);
+    }
+
     fn print_calls(&self) {
         print!("{:<15}", "answers");
-        for number in 0..NUMBERS - 1 {
+        for number in 0..NUMBERS {
             print!("{number:>8}");
         }
         println!();
         for (call, name) in CALLS.iter().enumerate() {
             print!("{name:<15}");
-            for number in 0..NUMBERS - 1 {
+            for number in 0..NUMBERS {
                 print!("{:>8}", self.cell(call, number));
             }
             println!();

@@ -7,9 +7,9 @@ use crate::damage::damage;
 use crate::foreign::scribble;
 use crate::model::check::{allowed_length, broken_rule};
 use crate::model::layout::LONGEST;
-use crate::pick::{any_call, call, Mood, MOODS};
+use crate::pick::{any_call, call, lend, Mood, MOODS};
 use crate::random::Random;
-use crate::scatter::{scatter, Plan, EXCESSES};
+use crate::scatter::{crowd, scatter, Plan, EXCESSES};
 use crate::scene::Scene;
 
 type Verdict = Result<(), String>;
@@ -77,15 +77,14 @@ fn scattered(random: &mut Random, bout: &mut Bout) -> Verdict {
         slots: random.one(&[1, 2, 4, 9]),
         excess: None,
     };
-    let mut image = sound(random, bout, &plan)?;
+    let mut image = sound(bout, scatter(random, &plan))?;
     bout.coverage.count_image(image.len());
     let steps = random.within(20, 80);
     live(random, bout, &mut image, steps)
 }
 
 /// A scattered image that must be well formed.
-fn sound(random: &mut Random, bout: &mut Bout, plan: &Plan) -> Result<Vec<u8>, String> {
-    let image = scatter(random, plan);
+fn sound(bout: &mut Bout, image: Vec<u8>) -> Result<Vec<u8>, String> {
     bout.coverage.scattered += 1;
     match broken_rule(&image) {
         0 => Ok(image),
@@ -103,7 +102,7 @@ fn deep(random: &mut Random, bout: &mut Bout) -> Verdict {
         bout.coverage.count_damaged(broken_rule(&image));
         return torture(random, bout, &image, &Scene::default(), 8);
     }
-    let mut image = sound(random, bout, &plan)?;
+    let mut image = sound(bout, scatter(random, &plan))?;
     bout.coverage.count_image(image.len());
     live(random, bout, &mut image, 25)
 }
@@ -130,7 +129,10 @@ fn large(random: &mut Random, bout: &mut Bout) -> Verdict {
             slots: 20,
             excess: None,
         };
-        image = sound(random, bout, &plan)?;
+        image = sound(bout, scatter(random, &plan))?;
+    } else if random.percent(30) {
+        let slots = random.one(&[100, 255, 256, 1023, 1024]);
+        image = sound(bout, crowd(random, slots))?;
     } else {
         let whole = random.within(4096, LONGEST / 16);
         let length = random.one(&[16 * whole, LONGEST, 65_536, 131_072, 131_072 + 16 * 300]);
@@ -187,12 +189,24 @@ fn live(random: &mut Random, bout: &mut Bout, image: &mut Vec<u8>, steps: usize)
             }
         }
     }
-    bout.step(image, &Call::Check).map(|_| ())
+    bout.step(image, &Call::Check)?;
+    listings(random, bout, image)
 }
 
-/// A check and some other calls, each on a fresh copy of a damaged image.
+/// Listings into no lines, one too few, just enough, and more.
+fn listings(random: &mut Random, bout: &mut Bout, image: &mut Vec<u8>) -> Verdict {
+    let count = Scene::of(image).things.len();
+    let more = count + random.within(1, 5);
+    for lines in [0, count.saturating_sub(1), count, more] {
+        bout.step(image, &lend(random, lines))?;
+    }
+    Ok(())
+}
+
+/// A check, a listing with lines to spare, and some other calls, each on a fresh copy of a damaged image.
 fn torture(random: &mut Random, bout: &mut Bout, damaged: &[u8], scene: &Scene, count: usize) -> Verdict {
     bout.step(&mut damaged.to_vec(), &Call::Check)?;
+    bout.step(&mut damaged.to_vec(), &lend(random, scene.things.len() + 25))?;
     for _ in 0..count {
         let index = random.below(CALLS.len());
         let call = call(random, scene, Mood::Working, index);

@@ -67,65 +67,80 @@ extern "C" {
         length: u64,
     ) -> u8;
     fn sffs1_remove(image: *mut u8, image_len: usize, path: *const u8, path_len: usize) -> u8;
+    fn sffs1_list(
+        image: *const u8,
+        image_len: usize,
+        numbers: *mut u64,
+        numbers_len: usize,
+        count: *mut u64,
+    ) -> u8;
 }
 
 /// What an out number holds before the call: never an answer.
 const JUNK: u64 = 0xa5c3_9687_b4d2_e1f0;
 const GUARD: [u8; 37] = [0xdb; 37];
+const NUMBER_GUARD: [u64; 37] = [0xdbdb_dbdb_dbdb_dbdb; 37];
 
-/// Lent bytes between two guards.
-struct Lent {
-    bytes: Vec<u8>,
+/// Lent bytes or numbers between two guards.
+struct Lent<T> {
+    guard: [T; 37],
+    whole: Vec<T>,
     length: usize,
 }
 
-impl Lent {
-    fn new(content: &[u8]) -> Lent {
-        Lent { bytes: [&GUARD, content, &GUARD].concat(), length: content.len() }
+impl<T: Copy + PartialEq> Lent<T> {
+    fn new(guard: [T; 37], content: &[T]) -> Lent<T> {
+        Lent { guard, whole: [&guard, content, &guard].concat(), length: content.len() }
     }
 
-    fn pointer(&mut self) -> *mut u8 {
-        self.bytes[GUARD.len()..].as_mut_ptr()
+    fn pointer(&mut self) -> *mut T {
+        self.whole[self.guard.len()..].as_mut_ptr()
     }
 
-    fn content(&self) -> &[u8] {
-        &self.bytes[GUARD.len()..][..self.length]
+    fn content(&self) -> &[T] {
+        &self.whole[self.guard.len()..][..self.length]
     }
 
     fn guarded(&self) -> bool {
-        self.bytes[..GUARD.len()] == GUARD && self.bytes[GUARD.len() + self.length..] == GUARD
+        let (before, rest) = self.whole.split_at(self.guard.len());
+        before == self.guard && rest[self.length..] == self.guard
     }
 }
 
-/// The lent path, and the lent buffer or bytes; each call uses what it needs.
+/// The lent path, the lent buffer or bytes, and the lent lines; each call uses what it needs.
 struct Loan {
-    path: Lent,
-    buffer: Lent,
+    path: Lent<u8>,
+    buffer: Lent<u8>,
+    lines: Lent<u64>,
 }
 
 fn loan(call: &Call) -> Loan {
     let none: &[u8] = &[];
     let (path, buffer): (&[u8], &[u8]) = match call {
-        Call::Format { .. } | Call::Check => (none, none),
+        Call::Format { .. } | Call::Check | Call::List { .. } => (none, none),
         Call::Find { path } | Call::Remove { path } | Call::SetLength { path, .. } => (path, none),
         Call::MakeDirectory { path, .. } | Call::MakeFile { path, .. } => (path, none),
         Call::Read { path, buffer, .. } => (path, buffer),
         Call::ReadPoint { path, .. } => (path, &[0x6b; 16]),
         Call::Write { path, bytes, .. } => (path, bytes),
     };
-    Loan { path: Lent::new(path), buffer: Lent::new(buffer) }
+    let lines: &[u64] = if let Call::List { lent } = call { lent } else { &[] };
+    Loan {
+        path: Lent::new(GUARD, path),
+        buffer: Lent::new(GUARD, buffer),
+        lines: Lent::new(NUMBER_GUARD, lines),
+    }
 }
 
 /// The call on the library: its outcome and the image afterwards, or what it overran.
 pub fn on_library(image: &[u8], call: &Call) -> Result<(Outcome, Vec<u8>), String> {
-    let mut card = Lent::new(image);
+    let mut card = Lent::new(GUARD, image);
     let mut loan = loan(call);
     let path = loan.path.content().to_vec();
     let lent = loan.buffer.content().to_vec();
     let (refusal, numbers) = enter(&mut card, &mut loan, call);
-    let whole = [("image", &card), ("path", &loan.path), ("buffer", &loan.buffer)];
-    if let Some((what, _)) = whole.iter().find(|(_, lent)| !lent.guarded()) {
-        return Err(format!("bytes beside the {what} were changed"));
+    if let Some(what) = overrun(&card, &loan) {
+        return Err(format!("what stands beside the {what} was changed"));
     }
     if loan.path.content() != path {
         return Err("the path was changed".to_string());
@@ -137,14 +152,27 @@ pub fn on_library(image: &[u8], call: &Call) -> Result<(Outcome, Vec<u8>), Strin
         }
         buffer.clear();
     }
-    Ok((Outcome { refusal, numbers, buffer }, card.content().to_vec()))
+    let lines = loan.lines.content().to_vec();
+    Ok((Outcome { refusal, numbers, buffer, lines }, card.content().to_vec()))
+}
+
+/// What has a changed guard.
+fn overrun(card: &Lent<u8>, loan: &Loan) -> Option<&'static str> {
+    let kept = [
+        ("image", card.guarded()),
+        ("path", loan.path.guarded()),
+        ("buffer", loan.buffer.guarded()),
+        ("lines", loan.lines.guarded()),
+    ];
+    kept.into_iter().find(|(_, kept)| !kept).map(|(what, _)| what)
 }
 
 /// The refusal and the out numbers.
-fn enter(card: &mut Lent, loan: &mut Loan, call: &Call) -> (u8, Vec<u64>) {
+fn enter(card: &mut Lent<u8>, loan: &mut Loan, call: &Call) -> (u8, Vec<u64>) {
     let (image, length) = (card.pointer(), card.length);
     let (path, path_len) = (loan.path.pointer(), loan.path.length);
     let (buffer, buffer_len) = (loan.buffer.pointer(), loan.buffer.length);
+    let (lines, lines_len) = (loan.lines.pointer(), loan.lines.length);
     let (mut a, mut b, mut c, mut d) = (JUNK, JUNK, JUNK, JUNK as u8);
     // SAFETY: every pointer is to lent bytes or numbers that live through the call, with their true lengths,
     // and none overlap.
@@ -166,11 +194,13 @@ fn enter(card: &mut Lent, loan: &mut Loan, call: &Call) -> (u8, Vec<u64>) {
             }
             Call::SetLength { length: new, .. } => sffs1_set_length(image, length, path, path_len, new),
             Call::Remove { .. } => sffs1_remove(image, length, path, path_len),
+            Call::List { .. } => sffs1_list(image, length, lines, lines_len, &mut a),
         }
     };
     let numbers = match call {
         Call::Find { .. } => vec![a, d.into(), b, c],
-        Call::MakeDirectory { .. } | Call::MakeFile { .. } | Call::Read { .. } => vec![a],
+        Call::MakeDirectory { .. } | Call::MakeFile { .. } => vec![a],
+        Call::Read { .. } | Call::List { .. } => vec![a],
         _ => Vec::new(),
     };
     (refusal, numbers)

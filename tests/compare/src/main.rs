@@ -3,6 +3,8 @@
 //!
 //! Arguments: the number of histories, and the seed of the first; each further history has the next seed.
 //! A third argument, 1, prints every seed and call before it is run.
+//!
+//! With the one argument `show` the model prints the listing of the image that standard input gives.
 
 mod bench;
 mod call;
@@ -20,6 +22,8 @@ mod scatter;
 mod scene;
 
 use coverage::Coverage;
+use model::list::{show, LONGEST_SHOWN};
+use std::io::{self, Read, Write};
 use std::process::ExitCode;
 use std::time::Instant;
 
@@ -33,7 +37,21 @@ fn argument(position: usize, otherwise: u64) -> u64 {
     }
 }
 
+fn show_input() -> io::Result<()> {
+    let mut card = Vec::new();
+    io::stdin().take(LONGEST_SHOWN as u64 + 1).read_to_end(&mut card)?;
+    io::stdout().write_all(&show(&card))
+}
+
 fn main() -> ExitCode {
+    if std::env::args().nth(1).as_deref() == Some("show") {
+        show_input().unwrap_or_else(|what| panic!("{what}"));
+        return ExitCode::SUCCESS;
+    }
+    run_histories()
+}
+
+fn run_histories() -> ExitCode {
     let (count, first, tell) = (argument(1, HISTORIES), argument(2, 1), argument(3, 0) == 1);
     let started = Instant::now();
     let mut coverage = Coverage::default();

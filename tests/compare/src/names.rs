@@ -1,7 +1,8 @@
 //! Random names and paths, good and bad.
 
+use crate::model::name::join;
 use crate::random::Random;
-use crate::scene::{join, Scene, Thing};
+use crate::scene::{Scene, Thing};
 
 /// A valid name: mostly short, now and then at a bound, or with bytes above 7F.
 pub fn good_name(random: &mut Random) -> Vec<u8> {

@@ -1,6 +1,7 @@
 //! Random calls, chosen by what stands in the image.
 
 use crate::call::Call;
+use crate::model::list::LINE;
 use crate::names::*;
 use crate::random::Random;
 use crate::scene::{Scene, Thing};
@@ -17,12 +18,12 @@ pub enum Mood {
 pub const MOODS: [Mood; 4] = [Mood::Filling, Mood::Churning, Mood::Working, Mood::Digging];
 
 /// Chances of the calls, by `Call::index`.
-fn weights(mood: Mood) -> [usize; 10] {
+fn weights(mood: Mood) -> [usize; 11] {
     match mood {
-        Mood::Filling => [1, 2, 5, 22, 40, 4, 4, 14, 5, 3],
-        Mood::Churning => [2, 2, 4, 13, 25, 4, 4, 10, 6, 30],
-        Mood::Working => [1, 2, 9, 3, 9, 19, 19, 20, 15, 3],
-        Mood::Digging => [1, 1, 5, 60, 10, 4, 4, 5, 3, 7],
+        Mood::Filling => [1, 2, 5, 22, 40, 4, 4, 14, 5, 3, 5],
+        Mood::Churning => [2, 2, 4, 13, 25, 4, 4, 10, 6, 30, 6],
+        Mood::Working => [1, 2, 9, 3, 9, 19, 19, 20, 15, 3, 9],
+        Mood::Digging => [1, 1, 5, 60, 10, 4, 4, 5, 3, 7, 6],
     }
 }
 
@@ -54,7 +55,8 @@ pub fn call(random: &mut Random, scene: &Scene, mood: Mood, index: usize) -> Cal
             let length = position(random, scene.named(&path));
             Call::SetLength { path, length }
         }
-        _ => Call::Remove { path: path(random, scene, Wish::Removable) },
+        9 => Call::Remove { path: path(random, scene, Wish::Removable) },
+        _ => list(random, scene),
     }
 }
 
@@ -260,4 +262,27 @@ fn point(random: &mut Random, thing: Option<&Thing>) -> u64 {
         18 => random.one(&FAR),
         _ => random.within(1, 4096) as u64,
     }
+}
+
+/// Lent lines: none, too few, just enough, or more.
+fn list(random: &mut Random, scene: &Scene) -> Call {
+    let needed = match scene.things.len() {
+        0 => random.within(1, 40),
+        count => count,
+    };
+    let lines = match random.below(20) {
+        0..=1 => 0,
+        2..=5 => needed - 1,
+        6..=11 => needed,
+        12..=13 => needed + 1,
+        14..=16 => needed + random.within(1, 20),
+        _ => random.below(needed),
+    };
+    lend(random, lines)
+}
+
+/// A listing into so many lines, often with some numbers over that make no line.
+pub fn lend(random: &mut Random, lines: usize) -> Call {
+    let over = if random.percent(50) { 0 } else { random.one(&[1, 3, LINE - 1]) };
+    Call::List { lent: random.numbers(LINE * lines + over) }
 }

@@ -70,6 +70,25 @@ pub fn scatter(random: &mut Random, plan: &Plan) -> Vec<u8> {
     render(random, &items, &pieces)
 }
 
+/// A root with so many slots, all taken by small objects.
+pub fn crowd(random: &mut Random, slots: usize) -> Vec<u8> {
+    let root =
+        Item { directory: true, extent: slots, depth: 0, name: Vec::new(), holder: 0, slots: Vec::new() };
+    let mut items = vec![root];
+    for index in 1..=slots {
+        let directory = random.percent(20);
+        let extent = random.within(1, 3);
+        let held = if directory { vec![None; extent] } else { Vec::new() };
+        let name = index.to_string().into_bytes();
+        items.push(Item { directory, extent, depth: 1, name, holder: 0, slots: held });
+    }
+    let mut order: Vec<usize> = (1..=slots).collect();
+    random.shuffle(&mut order);
+    items[0].slots = order.into_iter().map(Some).collect();
+    let pieces = lay_out(random, &items);
+    render(random, &items, &pieces)
+}
+
 /// Puts one object over a bound.
 fn exceed(random: &mut Random, items: &mut [Item], excess: Excess) {
     let file = (0..items.len()).find(|&item| !items[item].directory);

@@ -2,6 +2,7 @@
 
 use crate::model::check::{open, Blocks};
 use crate::model::layout::{get64, Block, Kind, FILE_SIZE};
+use crate::model::name::join;
 use crate::model::room::{free_chain, Stretch};
 use crate::model::tree::{objects, slots_of, Slot};
 
@@ -68,16 +69,4 @@ impl Scene {
     pub fn named(&self, path: &[u8]) -> Option<&Thing> {
         self.things.iter().find(|thing| thing.path() == path)
     }
-}
-
-pub fn join(parts: &[Vec<u8>]) -> Vec<u8> {
-    if parts.is_empty() {
-        return b"/".to_vec();
-    }
-    let mut path = Vec::new();
-    for part in parts {
-        path.push(b'/');
-        path.extend_from_slice(part);
-    }
-    path
 }

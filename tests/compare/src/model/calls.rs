@@ -1,10 +1,10 @@
-//! The calls, each with its refusals in their order. A listing will stand here too, over `tree::objects`.
+//! The calls but list, each with its refusals in their order.
 
 use super::check::{allowed_length, open, Blocks};
 use super::layout::*;
 use super::name::components;
 use super::room::{place, release};
-use super::tree::{lookup, slots_of, taken_slots, walk, Entry, Slot};
+use super::tree::{extent, lookup, slots_of, taken_slots, walk, Entry, Slot};
 
 #[derive(Clone, Copy, PartialEq, Eq, Debug)]
 pub struct Found {
@@ -46,13 +46,8 @@ pub fn format(image: &mut [u8], slots: u64) -> Result<(), u8> {
 pub fn find(image: &[u8], path: &[u8]) -> Result<Found, u8> {
     let blocks = open(image)?;
     let block = walk(image, &blocks, &components(path)?)?.block;
-    let directory = block.kind == Kind::Directory;
-    let (first, second) = if directory {
-        (taken_slots(image, &block) as u64, block.slots() as u64)
-    } else {
-        (get64(image, block.at + FILE_SIZE), block.room() as u64)
-    };
-    Ok(Found { reference: block.reference(), directory, first, second })
+    let (first, second) = extent(image, &block);
+    Ok(Found { reference: block.reference(), directory: block.kind == Kind::Directory, first, second })
 }
 
 /// What is made: a directory with slots, or a file with room.

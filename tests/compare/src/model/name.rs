@@ -45,3 +45,16 @@ pub fn components(path: &[u8]) -> Result<Vec<&[u8]>, u8> {
     }
     Ok(parts)
 }
+
+/// The path with these components.
+pub fn join(parts: &[Vec<u8>]) -> Vec<u8> {
+    if parts.is_empty() {
+        return b"/".to_vec();
+    }
+    let mut path = Vec::new();
+    for part in parts {
+        path.push(b'/');
+        path.extend_from_slice(part);
+    }
+    path
+}

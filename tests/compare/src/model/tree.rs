@@ -24,10 +24,11 @@ pub struct Entry {
     pub slot: Option<Slot>,
 }
 
-/// An object with the components of its path.
+/// An object with the ref of its directory (the root's is its own) and the components of its path.
 #[derive(Clone, Debug)]
 pub struct Object {
     pub entry: Entry,
+    pub holder: u64,
     pub parts: Vec<Vec<u8>>,
 }
 
@@ -43,6 +44,14 @@ pub fn slots_of(image: &[u8], directory: &Block) -> Vec<Slot> {
 
 pub fn taken_slots(image: &[u8], directory: &Block) -> usize {
     slots_of(image, directory).iter().filter(|slot| slot.taken()).count()
+}
+
+/// A file's size and room, or a directory's taken slots and slots.
+pub fn extent(image: &[u8], object: &Block) -> (u64, u64) {
+    match object.kind {
+        Kind::Directory => (taken_slots(image, object) as u64, object.slots() as u64),
+        _ => (get64(image, object.at + FILE_SIZE), object.room() as u64),
+    }
 }
 
 pub fn name_of<'a>(image: &'a [u8], name: &Block) -> &'a [u8] {
@@ -75,15 +84,18 @@ pub fn walk(image: &[u8], blocks: &Blocks, parts: &[&[u8]]) -> Result<Entry, u8>
     Ok(here)
 }
 
-/// Every object of a well-formed image, the root first, each directory before what it holds.
+/// Every object of a well-formed image, the root first, each directory before what it holds, and all that it
+/// holds before the next slot.
 pub fn objects(image: &[u8], blocks: &Blocks) -> Vec<Object> {
     let mut found = Vec::new();
-    gather(image, blocks, Object { entry: root_of(image, blocks), parts: Vec::new() }, &mut found);
+    let entry = root_of(image, blocks);
+    let root = Object { entry, holder: entry.block.reference(), parts: Vec::new() };
+    gather(image, blocks, root, &mut found);
     found
 }
 
 fn gather(image: &[u8], blocks: &Blocks, object: Object, found: &mut Vec<Object>) {
-    let Object { entry, parts } = object.clone();
+    let Object { entry, parts, .. } = object.clone();
     found.push(object);
     if entry.block.kind == Kind::File {
         return;
@@ -91,6 +103,7 @@ fn gather(image: &[u8], blocks: &Blocks, object: Object, found: &mut Vec<Object>
     for slot in slots_of(image, &entry.block).into_iter().filter(Slot::taken) {
         let mut parts = parts.clone();
         parts.push(name_of(image, &blocks.at(slot.name).unwrap()).to_vec());
-        gather(image, blocks, Object { entry: entry_of(blocks, slot), parts }, found);
+        let held = Object { entry: entry_of(blocks, slot), holder: entry.block.reference(), parts };
+        gather(image, blocks, held, found);
     }
 }

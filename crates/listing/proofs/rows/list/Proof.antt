@@ -17,7 +17,7 @@ use prog.Wp.{Calls, Heap, Loops, Tables, WpFn}
 use ghost.Atoms.{Atoms, sem}
 use contract.Monad.{Fun, fact}
 use contract.Running.{givenOf, tables, tablesOf}
-use types.Kit.{!, Given, Item, _$_, _∵_, _⊛_, await, by, done, drop, feqL, fjoin, frame, fsplit, join, keep, later, move, pick, qed, raw, some, split, suffices, use0, use1, use2, ‵, ⋆}
+use types.Kit.{ !, Given, Item, _$_, _∵_, _⊛_, await, by, done, drop, feqL, fjoin, frame, fsplit, join, keep, later, move, pick, qed, raw, some, split, suffices, use0, use1, use2, ‵, ⋆}
 use types.Part.{agg, look-in, sub, whole}
 use types.Run.{addr, alloc0, alloc1, and-then, assigns, enter, fld, forget, free0, free1, from, hop, init, land, load, look, no-more, of-opd, params1, pass0, pass1, returns, stop}
 use sound.WpLaws.{FmC, WpFn-mono, fmOf}
