@@ -1,4 +1,3 @@
 pub mod Walk
 pub mod Reading
-pub mod Listing
 pub mod Answers

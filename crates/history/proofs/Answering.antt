@@ -11,7 +11,7 @@ use Rattle.alloc.specs.Volume.{objects, volumeOf}
 use Rattle.calls.specs.Reading.{Found, blockIn, copied, find, foundAt, kindOf, pointAt, read, readAt, readPoint}
 use Rattle.calls.specs.Walk.{Walk, at, opening, reached, refused, start, walkFrom, walked}
 use Rattle.calls.proofs.Steps.{opening-bounds, opening-none, or-passed, or-refused}
-use Rattle.calls.specs.Listing.{Line}
+use Rattle.history.specs.Listing.{Line}
 use Rattle.history.specs.Book.{Tree}
 use Rattle.history.specs.Claim.{Entry, Shows, pointOn}
 use Rattle.history.proofs.Good.{Good}

@@ -8,7 +8,7 @@ use mathlib.Core.Option.{Option, some}
 use mathlib.Core.Path.{_≡_, refl, subst, sym}
 use lib.Dec.{eqb}
 use borrow.Author.Tests.{eqb-true}
-use Rattle.calls.specs.Listing.{list}
+use Rattle.history.specs.Listing.{list}
 use Rattle.history.specs.Book.{Tree, emptySlots}
 use Rattle.history.specs.History.{Call, booked, check, find, format, history, listing, make, read, readPoint, remove, setLength, step, write}
 use Rattle.history.proofs.BytesStep.{length-kept, write-kept, write-none}

@@ -11,7 +11,7 @@ use lib.Seq.{take-append-seam}
 use borrow.Author.Tests.{le-leb, leb-false, leb-true, lt-leb}
 use Rattle.storage.specs.Bytes.{u64At}
 use Rattle.alloc.specs.Volume.{Objects, objects, volumeOf}
-use Rattle.calls.specs.Listing.{Line, Listed, linesOf, list, objectLines}
+use Rattle.history.specs.Listing.{Line, Listed, linesOf, list, objectLines}
 use Rattle.history.specs.Book.{Tree}
 use Rattle.history.specs.Claim.{Claim, Each, both, chainFrom, entries, lineOwners, neither, owned, ownerAt, owners}
 use Rattle.history.proofs.Good.{Good}

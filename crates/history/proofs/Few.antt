@@ -7,7 +7,7 @@ use lib.ListN.{length, length-append}
 use Rattle.alloc.specs.Sound.{endOf}
 use Rattle.alloc.specs.Block.{units}
 use Rattle.alloc.specs.Volume.{free, Extent, allocated, objects, objectsFrom, volumeOf}
-use Rattle.calls.specs.Listing.{linesOf}
+use Rattle.history.specs.Listing.{linesOf}
 use Rattle.history.specs.Book.{Tree}
 use Rattle.history.proofs.Good.{Good}
 use Rattle.history.proofs.Lines.{root-lines, rowLines}

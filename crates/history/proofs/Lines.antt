@@ -8,7 +8,7 @@ use Rattle.alloc.specs.Block.{Block}
 use Rattle.alloc.specs.Volume.{Objects, blockAt}
 use Rattle.tree.specs.Fields.{isFile, slots}
 use Rattle.tree.proofs.Indexed.{slots-other}
-use Rattle.calls.specs.Listing.{Line, lineOf, objectLines, slotLines}
+use Rattle.history.specs.Listing.{Line, lineOf, objectLines, slotLines}
 use Rattle.history.proofs.Nodes.{Among, DirNode, Node, Rep, Stands, dir, empty, end, file, height, slotsOf}
 use Rattle.history.proofs.Sums.{times}
 use Rattle.history.proofs.Walks.{among-top, file-not, file-there, of-dir, rest-of, root-there, row-of, taken-some}

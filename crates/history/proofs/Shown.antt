@@ -16,7 +16,7 @@ use Rattle.tree.specs.Fields.{content, fileSize, isFile, isName, room}
 use Rattle.calls.specs.Reading as reading
 use Rattle.calls.specs.Reading.{directory}
 use Rattle.calls.specs.Walk.{at}
-use Rattle.calls.specs.Listing.{Line, lineOf, objectLines}
+use Rattle.history.specs.Listing.{Line, lineOf, objectLines}
 use Rattle.history.specs.Claim.{Each, Entry, both, entries, entriesIn, neither, slash, slotsIn, takenIn}
 use Rattle.history.proofs.Counts.{dir-kind, file-kind, size-content}
 use Rattle.history.proofs.Lines.{root-lines, rowLines}

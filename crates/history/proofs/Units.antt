@@ -8,7 +8,7 @@ use lib.Dec.{eqb, leb, ltb}
 use borrow.Author.Tests.{ne-eqb}
 use Rattle.alloc.specs.Block.{Block, sizeAt, unitsFor}
 use Rattle.alloc.specs.Volume.{Objects}
-use Rattle.calls.specs.Listing.{Line, lineOf, objectLines}
+use Rattle.history.specs.Listing.{Line, lineOf, objectLines}
 use Rattle.history.specs.Claim.{Owner, lineOwners, owned, ownerAt}
 use Rattle.history.proofs.Lines.{root-lines, rowLines}
 use Rattle.history.proofs.Nodes.{Node, Rep, Stands, dir, empty, end, file, sumOf}

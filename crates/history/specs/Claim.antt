@@ -13,7 +13,7 @@ use Rattle.tree.specs.Fields.{isName}
 use Rattle.tree.specs.Verdict.{wellFormed}
 use Rattle.calls.specs.Reading.{blockIn, Kind, file, directory, find, read, copied, Point, noPoint, readPoint}
 use Rattle.changes.specs.Changing as changing
-use Rattle.calls.specs.Listing.{Line, list}
+use Rattle.history.specs.Listing.{Line, list}
 use Rattle.history.specs.Book.{Tree, end, empty, fileSlot, dirSlot, emptySlots}
 use Rattle.history.specs.History.{Call, After, history}
 use Rattle.history.specs.TreeOf.{treeOf}

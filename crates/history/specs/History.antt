@@ -9,7 +9,7 @@ use Rattle.calls.specs.Walk.{lastName}
 use Rattle.calls.specs.Reading as reading
 use Rattle.changes.specs.Changing as changing
 use Rattle.changes.specs.Changing.{Outcome, Made, New}
-use Rattle.calls.specs.Listing.{Line, list}
+use Rattle.history.specs.Listing.{Line, list}
 use Rattle.history.specs.Book.{Tree, emptySlots, inDirectory, added, changed, emptied, written, resized}
 
 -- every call, with its arguments as values: a read's buffer and a listing's lines as they are lent

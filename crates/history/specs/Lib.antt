@@ -1,3 +1,4 @@
+pub mod Listing
 pub mod Book
 pub mod History
 pub mod TreeOf

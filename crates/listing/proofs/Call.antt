@@ -10,7 +10,7 @@ use lib.ListN.{drop, length, length-map, length-replicate, replicate, take}
 use lib.Seq.{take-all}
 use borrow.Author.Tests.{eq-eqb, le-leb, leb-true, lt-leb, ne-eqb}
 use Rattle.tree.specs.Verdict.{wellFormed}
-use Rattle.calls.specs.Listing.{Line, Listed, linesOf, list}
+use Rattle.history.specs.Listing.{Line, Listed, linesOf, list}
 use Rattle.history.proofs.Counting.{there}
 use Rattle.listing.specs.Answers.{AnswersFor, Fillable, Lists, filled, lineIs, noLine}
 use Rattle.listing.proofs.Stored.{filled-tells}

@@ -16,7 +16,7 @@ use Rattle.calls.specs.Answers.{DirectoryIn, ObjectAt}
 use Rattle.calls.specs.Reading.{blockIn}
 use Rattle.calls.proofs.Stands.{slot-object}
 use Rattle.listing.specs.Answers.{Sought, here, linesBelow, nth, past}
-use Rattle.calls.specs.Listing.{Line, lineOf, objectLines, slotLines}
+use Rattle.history.specs.Listing.{Line, lineOf, objectLines, slotLines}
 
 -- ---- a row of lines
 

@@ -12,7 +12,7 @@ use Rattle.calls.specs.declared.reading.Kind.the-variants.{Directory, File}
 use Rattle.calls.specs.Reading.{Kind, directory, file}
 use Rattle.listing.specs.declared.lines.Line as declared-line
 use Rattle.listing.specs.Answers.{filled, here, lineAs, lineIs, lineNo, linesTo, noLine, nth, past}
-use Rattle.calls.specs.Listing.{Line, linesOf}
+use Rattle.history.specs.Listing.{Line, linesOf}
 
 -- ---- a line and its stored form tell the same
 

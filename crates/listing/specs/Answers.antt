@@ -15,7 +15,7 @@ use Rattle.calls.specs.Reading.{Kind, file, directory, blockIn}
 use Rattle.listing.specs.declared.lines.Line as declared-line
 use Rattle.listing.specs.declared.seek.Seen.{Seen}
 use Rattle.listing.specs.declared.seek.Seen.the-variants.{Here, Past}
-use Rattle.calls.specs.Listing.{Line, slotLines, objectLines, linesOf, list}
+use Rattle.history.specs.Listing.{Line, slotLines, objectLines, linesOf, list}
 
 abbrev pub lineIs : declared-line.Line → Line
 lineIs l = record { ref = l .at .0; parent = l .parent .0; name = l .name .0; depth = l .depth; kind = kindIs (l .kind) }

@@ -12,8 +12,8 @@ ghost use lib.Dec.{eqb};
 ghost use lib.ListN.{length};
 ghost use Rattle.tree.specs.Verdict.{wellFormed};
 ghost use Rattle.listing.specs.Answers.{lineNo, filled, Fillable, AnswersFor, Lists};
-ghost use Rattle.calls.specs.Listing as spec;
-ghost use Rattle.calls.specs.Listing.{linesOf};
+ghost use Rattle.history.specs.Listing as spec;
+ghost use Rattle.history.specs.Listing.{linesOf};
 
 // A number, and how many lines the image has.
 pub struct Listed {

@@ -13,7 +13,7 @@ ghost use Rattle.alloc.specs.Volume.{volumeOf, objects};
 ghost use Rattle.tree.specs.Verdict.{wellFormed};
 ghost use Rattle.calls.specs.Answers.{ObjectAt, DirectoryIn};
 ghost use Rattle.listing.specs.Answers.{seenOf, nth, linesBelow};
-ghost use Rattle.calls.specs.Listing.{objectLines, linesOf};
+ghost use Rattle.history.specs.Listing.{objectLines, linesOf};
 
 // The line that is looked for, or how many are still to be passed.
 pub enum Seen {

@@ -9,7 +9,7 @@ ghost use Prim.Native.Nat.{_+_, _/_, _≤_};
 ghost use lib.ListN.{length, take};
 ghost use Rattle.storage.specs.Bytes.{splice};
 ghost use Rattle.calls.specs.Answers.{kindIs};
-ghost use Rattle.calls.specs.Listing.{linesOf};
+ghost use Rattle.history.specs.Listing.{linesOf};
 ghost use Rattle.listing.specs.Answers.{lineIs, Fillable};
 ghost use Rattle.sffs1.specs.Numbers.{directoryOf, firstOf, secondOf, sevenOf, numbersOf};
 

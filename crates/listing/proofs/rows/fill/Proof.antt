@@ -51,7 +51,7 @@ use denote.Exit.{yes}
 use Rattle.listing.specs.declared.lines.Line.{Line}
 use Rattle.tree.specs.Verdict.{wellFormed}
 use Rattle.listing.specs.Answers.{Fillable, lineNo}
-use Rattle.calls.specs.Listing.{linesOf}
+use Rattle.history.specs.Listing.{linesOf}
 use Rattle.listing.proofs.Stored.{after, after-is, length-after}
 use Rattle.listing.proofs.lines.Line as T
 use Rattle.listing.proofs.lines.Line.Laws as T′

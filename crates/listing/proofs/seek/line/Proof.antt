@@ -8,7 +8,7 @@ use Rattle.tree.proofs.Formed.{formed-tiled}
 use Rattle.calls.specs.Answers.{ObjectAt}
 use Rattle.calls.proofs.Stands.{root-object}
 use Rattle.listing.specs.Answers.{nth}
-use Rattle.calls.specs.Listing.{linesOf, objectLines}
+use Rattle.history.specs.Listing.{linesOf, objectLines}
 use Rattle.listing.proofs.seek.line.Statement.{statement}
 
 root-requires : tie.Need-root-requires
