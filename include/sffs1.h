@@ -1,8 +1,8 @@
 /* sffs1, the single-file filesystem version 1: a file store in one image of bytes.
 
    Every call answers for every image, path and number: nothing need be checked before. It returns 0 where it is
-   accepted, or the number of its refusal (README.md). A refusal sets every lent number to 0 and changes no
-   byte of a buffer or of the image. Lent numbers, buffers and images must not overlap. */
+   accepted, or the number of its refusal (README.md). A refusal sets every lent number to 0 (but for the count of a listing) and
+   changes no byte of a buffer or of the image. Lent numbers, buffers and images must not overlap. */
 
 #ifndef SFFS1_H
 #define SFFS1_H
@@ -52,6 +52,12 @@ uint8_t sffs1_set_length(uint8_t *image, size_t image_len, const uint8_t *path, 
 
 /* The file, or the directory that holds nothing, is gone, and its room is free again. */
 uint8_t sffs1_remove(uint8_t *image, size_t image_len, const uint8_t *path, size_t path_len);
+
+/* A line for every object: the root first; a directory lists what it holds before the next slot. Seven numbers a line: ref, the parent's
+   ref (the root's is its own), the name's ref (the root's is 0), depth, directory (0 or 1), and size and room, or taken slots and slots
+   in all. As many lines are lent as fit in numbers_len / 7; fewer than there are objects are refused with 14, and count is then the
+   number needed; it is 0 on other refusals. Numbers beyond the lines are unchanged. */
+uint8_t sffs1_list(const uint8_t *image, size_t image_len, uint64_t *numbers, size_t numbers_len, uint64_t *count);
 
 #ifdef __cplusplus
 }

@@ -57,6 +57,18 @@ static void expect_bytes(const char *path, const char *bytes, uint64_t wanted) {
     expect(path, n == wanted && memcmp(buffer, bytes, wanted) == 0, 1);
 }
 
+/* Two lines too few, then enough: the root, /b and /a. */
+static void expect_listing(void) {
+    static const uint64_t wanted[21] = {2, 2, 0, 0, 1, 2, 2, 5, 2, 13, 1, 0, 0, 41, 10, 2, 12, 1, 1, 0, 1};
+    uint64_t numbers[24], count = 99;
+    memset(numbers, 0xee, sizeof numbers);
+    expect("list with one line", sffs1_list(card, LENGTH, numbers, 13, &count), 14);
+    expect("lines needed", count, 3);
+    expect("list", sffs1_list(card, LENGTH, numbers, 24, &count), 0);
+    expect("lines", count, 3);
+    for (int i = 0; i < 24; i++) expect("a number", numbers[i], i < 21 ? wanted[i] : 0xeeeeeeeeeeeeeeeeULL);
+}
+
 int main(void) {
     memset(card, 0xee, LENGTH);
     expect("format of 65 bytes", sffs1_format(card, 65, 2), 1);
@@ -87,6 +99,7 @@ int main(void) {
     expect_file("/b", 41, 0, 5);
     expect("name ref", word(48), 13);
     expect("check", sffs1_check(card, LENGTH), 0);
+    expect_listing();
     if (failures == 0) puts("ok");
     return failures != 0;
 }
