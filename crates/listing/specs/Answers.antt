@@ -15,7 +15,7 @@ use Rattle.calls.specs.Reading.{Kind, file, directory, blockIn}
 use Rattle.listing.specs.declared.lines.Line as declared-line
 use Rattle.listing.specs.declared.seek.Seen.{Seen}
 use Rattle.listing.specs.declared.seek.Seen.the-variants.{Here, Past}
-use Rattle.history.specs.Listing.{Line, slotLines, objectLines, linesOf, list}
+use Rattle.history.specs.Listing.{Line, Listed, slotLines, objectLines, linesOf, list}
 
 abbrev pub lineIs : declared-line.Line → Line
 lineIs l = record { ref = l .at .0; parent = l .parent .0; name = l .name .0; depth = l .depth; kind = kindIs (l .kind) }
@@ -80,8 +80,8 @@ pub record Fillable (s : List ℕ) (n lent : ℕ) : Type 0 where
 pub record AnswersFor (s : List ℕ) (n refusal count : ℕ) : Type 0 where
   pub answers : (lent : List Line) → length lent ≡ n → (refusal ≡ list s lent .refusal) × (count ≡ list s lent .count)
 
--- the call: its numbers, and the row before and after it
-pub record Lists (s : List ℕ) (lent : List declared-line.Line) (refusal count : ℕ) (lines : List declared-line.Line) : Type 0 where
-  pub refusal-is : refusal ≡ list s (map lineIs lent) .refusal
-  pub count-is : count ≡ list s (map lineIs lent) .count
-  pub lines-are : map lineIs lines ≡ list s (map lineIs lent) .lines
+-- the call's answer: its numbers, and the row then
+pub record Lists (a : Listed) (refusal count : ℕ) (lines : List declared-line.Line) : Type 0 where
+  pub refusal-is : refusal ≡ a .refusal
+  pub count-is : count ≡ a .count
+  pub lines-are : map lineIs lines ≡ a .lines

@@ -7,11 +7,12 @@ use calls::reading::Kind;
 use storage::Ref;
 ghost use mathlib.Core.Path.{_≡_};
 ghost use mathlib.Core.Bool.{cond, true};
+ghost use mathlib.Core.List.{map};
 ghost use Prim.Native.Nat.{_<_};
 ghost use lib.Dec.{eqb};
 ghost use lib.ListN.{length};
 ghost use Rattle.tree.specs.Verdict.{wellFormed};
-ghost use Rattle.listing.specs.Answers.{lineNo, filled, Fillable, AnswersFor, Lists};
+ghost use Rattle.listing.specs.Answers.{lineIs, lineNo, filled, Fillable, AnswersFor, Lists};
 ghost use Rattle.history.specs.Listing as spec;
 ghost use Rattle.history.specs.Listing.{linesOf};
 
@@ -81,7 +82,7 @@ fn fill(image: &[u8], lines: &mut [Line], n: usize)
 
 // A line for every object of the image, the root first.
 pub fn list(image: &[u8], lines: &mut [Line]) -> Listed
-    ensures { λ a. ⌜ Lists (now (image .entry)) (now (lines .entry)) (a .refusal) (a .count) (now (lines .exit)) ⌝ }
+    ensures { λ a. ⌜ Lists (spec.list (now (image .entry)) (map lineIs (now (lines .entry)))) (a .refusal) (a .count) (now (lines .exit)) ⌝ }
 {
     let a = answer(image, lines.len());
     let n = to_fill(a);
