@@ -14,6 +14,7 @@ use Rattle.alloc.specs.Volume.{Objects, volumeOf, objects, chained}
 use Rattle.tree.specs.Rules.{rootStands}
 use Rattle.tree.specs.Verdict.{Verdict, BlockRule, rule3, rule4, rule5, rule6, rule7, keeps, breakerOf, orElse, unless, verdictOn, verdict, wellFormed}
 use Rattle.tree.specs.WellFormed.{EveryObject, Tiles, RootStands, Keeps, objectsOf, rootOf, Kept, WellFormed, FirstBreaker, number, KeptBelow, Judged, well-formed, breaks-1, breaks-2, breaks, breaks-8}
+use Rattle.tree.proofs.Judging.{number-low, blocks-kept}
 use Rattle.tree.proofs.Breakers.{breaker-first, first-breaker}
 use Rattle.tree.proofs.Namings.{Rises, objects-rise}
 use Rattle.tree.proofs.BlockRules.{root-means, root-tested, keeps-tested, pass-means, kept-means, kept-tested}
@@ -38,13 +39,6 @@ differ o r a b = let z : _≡_ {A = ℕ} 0 1 = cc in omega arith
 false-of : (b : Bool) → (b ≡ true → ⊥) → b ≡ false
 false-of true f = absurd (f refl)
 false-of false f = refl
-
-number-some : (n : BlockRule) → 0 < number n
-number-some rule3 = omega arith
-number-some rule4 = omega arith
-number-some rule5 = omega arith
-number-some rule6 = omega arith
-number-some rule7 = omega arith
 
 pub kept : {s : List ℕ} → WellFormed s → (n : BlockRule) → Kept n s
 kept w rule3 = w .rule-3
@@ -168,15 +162,7 @@ module _ (s : List ℕ) where
 
   all-kept : Top → ((n : BlockRule) → Kept n s) → (c : Bool) → verdictOn os root c ≡ orElse 8 (unless c) (record { rule = 0; place = 0 })
   unfolding verdictOn
-  all-kept a k c =
-      rw (
-        root-tested os root a,
-        kept-none rule3 (k rule3),
-        kept-none rule4 (k rule4),
-        kept-none rule5 (k rule5),
-        kept-none rule6 (k rule6),
-        kept-none rule7 (k rule7),
-      )
+  all-kept a k c = rw (root-tested os root a) (blocks-kept os root (λ n. kept-none n (k n)) _)
 
   pub judged-only : (v : Verdict) → Judged s v → verdict s ≡ v
   judged-only _ (well-formed w) =
@@ -192,7 +178,7 @@ module _ (s : List ℕ) where
   judged-zero _ (well-formed w) e = w
   judged-zero _ (breaks-1 n b) e = absurd (omega arith)
   judged-zero _ (breaks-2 t n) e = absurd (omega arith)
-  judged-zero _ (breaks n t a k b) e = absurd (omega (arith, number-some n))
+  judged-zero _ (breaks n t a k b) e = absurd (omega (arith, number-low n))
   judged-zero _ (breaks-8 t a k n) e = absurd (omega arith)
 
   pub verdict-exact : AllBytes s → (verdict s .rule ≡ 0) ↔ WellFormed s

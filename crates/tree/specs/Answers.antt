@@ -57,10 +57,6 @@ abbrev pub breachAt : Breach → Option ℕ
 breachAt Nowhere = none
 breachAt (At r) = some (r .0)
 
-abbrev pub placeOf : Option ℕ → ℕ
-placeOf none = 0
-placeOf (some r) = r
-
 -- a test of objects, for any block: free blocks pass
 unfoldable pub spared : (ℕ → Block → Bool) → ℕ → Block → Bool
 spared p r b = eqb (b .magic) SFfr || p r b
