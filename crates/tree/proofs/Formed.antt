@@ -19,29 +19,11 @@ use Rattle.tree.specs.Verdict.{BlockRule, rule3, rule6, rule7, wellForme
 use Rattle.tree.specs.WellFormed.{EveryObject, IsOther, directory, name, file, unused, SlotStands, is-empty, is-taken, Keeps, objectsOf, rootOf, WellFormed}
 use Rattle.tree.proofs.Breakers.{every-at}
 use Rattle.tree.proofs.BlockRules.{slot-tested}
-use Rattle.tree.proofs.Tiles.{other-means, tiles-tested}
+use Rattle.tree.proofs.Tiles.{other-means, directory-size, name-size, file-size, tiles-tested}
 use Rattle.tree.proofs.Chain.{chained-tested}
 use Rattle.tree.proofs.Verdicts.{kept, well-formed-means}
 
--- ---- sizes by kind
-
-pub directory-size : (b : Block) → IsOther b → isDir b ≡ true → (length (b .body) ≡ 8 + 16 * total b) × (1 ≤ total b) × (total b ≤ 1024)
-directory-size b (directory m e l h) q = omega arith
-directory-size b (name m l h) q = absurd (omega (arith, eqb-true (b .magic) SFde q))
-directory-size b (file m l h) q = absurd (omega (arith, eqb-true (b .magic) SFde q))
-directory-size b (unused m e l h) q = absurd (omega (arith, eqb-true (b .magic) SFde q))
-
-pub name-size : (b : Block) → IsOther b → isName b ≡ true → (1 ≤ length (b .body)) × (length (b .body) ≤ 64)
-name-size b (directory m e l h) q = absurd (omega (arith, eqb-true (b .magic) SFna q))
-name-size b (name m l h) q = (l, h)
-name-size b (file m l h) q = absurd (omega (arith, eqb-true (b .magic) SFna q))
-name-size b (unused m e l h) q = absurd (omega (arith, eqb-true (b .magic) SFna q))
-
-pub file-size : (b : Block) → IsOther b → isFile b ≡ true → (16 ≤ length (b .body)) × (length (b .body) ≤ 65552)
-file-size b (directory m e l h) q = absurd (omega (arith, eqb-true (b .magic) SFre q))
-file-size b (name m l h) q = absurd (omega (arith, eqb-true (b .magic) SFre q))
-file-size b (file m l h) q = (l, h)
-file-size b (unused m e l h) q = absurd (omega (arith, eqb-true (b .magic) SFre q))
+-- ---- objects
 
 pub objects-other : (r : ℕ) (es : List Extent) → AllSound es → EveryObject (λ _ b. IsOther b) (objectsFrom r es)
 unfolding AllSound objectsFrom

@@ -16,38 +16,29 @@ use Rattle.alloc.proofs.Cuts.{block-size}
 use Rattle.tree.specs.Fields.{isDir, Slot, total, slotAt, slotsFrom, slots, taken, takenCount}
 use Rattle.tree.specs.Rules.{slotStands, slotsStand, namings, nameIn, distinct}
 use Rattle.tree.specs.Answers.{DirectoryAt, equalNames}
+use Rattle.tree.proofs.Tiles.{directory-size, standing-other}
 use Rattle.tree.proofs.Indexed.{every-slots, stand-every}
 
 -- ---- the fields of a directory that stands
 
+pub block-directory : (s : List ℕ) (r : ℕ) → magicAt s r ≡ SFde → isDir (blockOf s r) ≡ true
+unfolding blockOf
+block-directory s r e = eq-eqb (magicAt s r) SFde e
+
 module _ {s : List ℕ} {r : ℕ} (d : DirectoryAt s r) where
-  pub directory-size : (24 ≤ sizeAt s r) × (sizeAt s r % 16 ≡ 8) × (sizeAt s r ≤ 16392)
-  unfolding otherKind
-  directory-size = go (sizeAt s r) (subst (λ (m : ℕ). otherKind m (sizeAt s r) ≡ true) (d .magic) (d .standing .kind))
-    where
-      go : (n : ℕ) → otherKind SFde n ≡ true → (24 ≤ n) × (n % 16 ≡ 8) × (n ≤ 16392)
-      go n e =
-          or-elim ((eqb (n % 16) 8 && within 24 16392 n) || false || false) false e
-          (λ e. or-elim ((eqb (n % 16) 8 && within 24 16392 n) || false) false e
-          (λ e. or-elim (eqb (n % 16) 8 && within 24 16392 n) false e
-          (λ e.
-          let f = and-true (eqb (n % 16) 8) (within 24 16392 n) e in
-          let g = and-true (leb 24 n) (leb n 16392) (f .1) in
-          (leb-true 24 n (g .0), eqb-true (n % 16) 8 (f .0), leb-true n 16392 (g .1)))
-          (λ e. let z : _≡_ {A = ℕ} 0 1 = cc in absurd (omega arith)))
-          (λ e. let z : _≡_ {A = ℕ} 0 1 = cc in absurd (omega arith)))
-          (λ e. let z : _≡_ {A = ℕ} 0 1 = cc in absurd (omega arith))
+  pub directory-is : isDir (blockOf s r) ≡ true
+  directory-is = block-directory s r (d .magic)
+
+  pub directory-data-size : (24 ≤ sizeAt s r) × (sizeAt s r % 16 ≡ 8) × (sizeAt s r ≤ 16392)
+  directory-data-size =
+      omega (arith, directory-size (blockOf s r) (standing-other (d .standing)) directory-is, block-size s r (d .standing .fits))
 
   pub directory-total : total (blockOf s r) ≡ (sizeAt s r - 8) / 16
   directory-total = ap (λ (n : ℕ). (n - 8) / 16) (block-size s r (d .standing .fits))
 
-  pub directory-is : isDir (blockOf s r) ≡ true
-  unfolding blockOf
-  directory-is = eq-eqb (magicAt s r) SFde (d .magic)
-
   -- slot i lies in the data
   pub slot-inside : (i : ℕ) → i < total (blockOf s r) → (16 + 16 * i + 8 ≤ sizeAt s r) × (i < 1024)
-  slot-inside i h = omega (arith, directory-total, directory-size)
+  slot-inside i h = omega (arith, directory-total, directory-data-size)
 
 -- what is no directory has no slots
 pub no-slots : (s : List ℕ) (r : ℕ) → (magicAt s r ≡ SFde → ⊥) → slots (blockOf s r) ≡ []

@@ -21,6 +21,7 @@ use Rattle.path.specs.Name.{validName}
 use Rattle.tree.specs.Fields.{isDir, isName, isFile, parent, Slot, total, slotAt, slotsFrom, slots, taken, takenCount}
 use Rattle.tree.specs.Rules.{rootStands, slotStands, namings, allNamings, namedOnce, climb, depthAllowed, distinct, namesStand, fileStands}
 use Rattle.tree.specs.Answers.{DirectoryAt, SoundDirectory, equalNames}
+use Rattle.tree.proofs.Tiles.{file-size, standing-other}
 use Rattle.tree.proofs.BlockRules.{slot-means}
 use Rattle.tree.proofs.Formed.{name-there, slot-filled}
 use Rattle.tree.proofs.Rows.{directory-is, no-slots, left, counted, naming, namings-counted, slot-kept}
@@ -45,10 +46,6 @@ pub kind-is : (os : Objects) (t : ℕ) {n : ℕ} {q : Bool} → n ≡ blockAt os
 kind-is os t e d = ap (λ (x : ℕ). eqb x SFde) (sym e) ∙ d
 
 -- the kind of the block that stands at r, by its magic
-pub block-directory : (s : List ℕ) (r : ℕ) → magicAt s r ≡ SFde → isDir (blockOf s r) ≡ true
-unfolding blockOf
-block-directory s r e = eq-eqb (magicAt s r) SFde e
-
 pub block-other : (s : List ℕ) (r : ℕ) → (magicAt s r ≡ SFde → ⊥) → isDir (blockOf s r) ≡ false
 unfolding blockOf
 block-other s r n = ne-eqb (magicAt s r) SFde n
@@ -297,14 +294,8 @@ module _ (os : Objects) (r : ℕ) (b : Block) where
 -- ---- rule 7
 
 pub file-data-size : {s : List ℕ} {r : ℕ} → Standing s r → magicAt s r ≡ SFre → (16 ≤ sizeAt s r) × (sizeAt s r ≤ 65552)
-unfolding otherKind
-file-data-size {s} {r} w e = go (sizeAt s r) (subst (λ (m : ℕ). otherKind m (sizeAt s r) ≡ true) e (w .kind))
-  where
-    go : (n : ℕ) → otherKind SFre n ≡ true → (16 ≤ n) × (n ≤ 65552)
-    go n e =
-        or-elim (within 16 65552 n) false e
-        (λ t. let f = and-true (leb 16 n) (leb n 65552) t in (leb-true 16 n (f .0), leb-true n 65552 (f .1)))
-        (λ t. let z : _≡_ {A = ℕ} 0 1 = cc in absurd (omega arith))
+unfolding blockOf
+file-data-size {s} {r} w e = omega (arith, file-size (blockOf s r) (standing-other w) (eq-eqb (magicAt s r) SFre e), block-size s r (w .fits))
 
 module _ (s : List ℕ) (r : ℕ) where
   pub file-other : (magicAt s r ≡ SFre → ⊥) → true ≡ fileStands r (blockOf s r)
