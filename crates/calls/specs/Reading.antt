@@ -1,6 +1,6 @@
 -- The calls that change nothing, each as a function of the image and its arguments. A refusal has its number, and all else zero.
-use Prim.Native.Nat.{ℕ, _+_, _*_, _-_}
-use mathlib.Core.List.{List, [], _∷_}
+use Prim.Native.Nat.{ℕ, _*_, _-_}
+use mathlib.Core.List.{List}
 use mathlib.Core.Bool.{true, cond}
 use lib.Dec.{leb}
 use lib.ListN.{length, take, drop}

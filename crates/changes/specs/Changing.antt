@@ -1,15 +1,15 @@
 -- The calls that change the image, each as a function of the image and its arguments: the number, the ref of what was made, and the image then.
 -- A refusal has its number, all else zero, and the image as it was.
-use Prim.Native.Nat.{ℕ, zero, suc, _+_, _*_, _-_, _/_, min, max}
+use Prim.Native.Nat.{ℕ, _+_, _*_, _-_, _/_, min, max}
 use mathlib.Core.List.{List, [], _∷_, _++_}
-use mathlib.Core.Bool.{Bool, true, false, cond, not}
+use mathlib.Core.Bool.{Bool, true, false, cond}
 use mathlib.Core.Option.{none, some}
 use lib.Dec.{eqb, leb}
 use lib.ListN.{length}
 use Rattle.storage.specs.Bytes.{be64, zeroed}
 use Rattle.alloc.specs.Block.{Block, SFde, SFna, SFre, units}
 use Rattle.alloc.specs.Tiling.{within, lengthAllowed}
-use Rattle.alloc.specs.Volume.{Extent, allocated, Volume, image, volumeOf, objects, blockAt}
+use Rattle.alloc.specs.Volume.{Extent, allocated, Volume, image, volumeOf, objects}
 use Rattle.alloc.specs.Room.{placePair, released, updated, oneFree}
 use Rattle.tree.specs.Fields.{isFile, slotAt, slots, takenCount, fileSize, room}
 use Rattle.calls.specs.Walk.{slotNamed, emptySlot, Start, refused, reached, start, startAbove, lastName}

@@ -2,6 +2,8 @@
 
 use libc::STDOUT_FILENO;
 use storage::Offset;
+ghost use mathlib.Core.Path.{_≡_};
+ghost use Rattle.show.specs.Words.{spreadOver};
 
 // The first word of a block is its magic and its size.
 pub const SUPERBLOCK: u64 = 0x53463031_00000000;
@@ -15,7 +17,9 @@ pub const FILE: u64 = 0x53467265_00000000;
 pub const FREE: u64 = 0x53466672_00000000;
 
 // The words from the front of the image on, as many as there is room for.
-pub fn spread(words: &[u64], image: &mut [u8]) {
+pub fn spread(words: &[u64], image: &mut [u8])
+    ensures { λ _. ⌜ now (image .exit) ≡ spreadOver (now (words .entry)) (now (image .entry)) ⌝ }
+{
     let mut at: usize = 0;
     let mut i: usize = 0;
     while i < words.len() {

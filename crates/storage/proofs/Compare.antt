@@ -6,7 +6,7 @@ use mathlib.Core.Bool.{Bool, true, false, _&&_}
 use native.Mathlib.Omega.{arith}
 use lib.Dec.{eqb}
 use borrow.Author.Tests.{eqb-true, eqb-false, eq-eqb}
-use lib.ListN.{length, replicate}
+use lib.ListN.{length}
 use Rattle.storage.specs.Bytes.{be64, u64At, same, zeros, zeroed}
 use Rattle.storage.proofs.Numbers.{be64-read}
 

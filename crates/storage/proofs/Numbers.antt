@@ -1,10 +1,10 @@
 -- Big-endian numbers: read where they were written, read elsewhere, and written back where they were read.
-use Prim.Native.Nat.{ℕ, zero, suc, _+_, _*_, _-_, _/_, _%_, _<_, _≤_}
+use Prim.Native.Nat.{ℕ, zero, suc, _+_, _*_, _/_, _%_, _<_, _≤_}
 use mathlib.Core.List.{List, [], _∷_, _++_}
 use mathlib.Core.Path.{_≡_, refl, ap, sym, _∙_}
 use native.Mathlib.Omega.{arith}
 use native.Mathlib.Nat.{add-zero, zero-add, add-assoc}
-use lib.ListN.{length, take, drop, getD, length-drop, length-append, List·getD-append}
+use lib.ListN.{length, take, drop, getD, length-drop, List·getD-append}
 use lib.Seq.{take-add, getD-drop, getD-append-add}
 use Rattle.storage.specs.Bytes.{be32, be64, u32At, u64At, splice}
 use Rattle.storage.proofs.Splice.{splice-inside, splice-before, splice-behind}

@@ -1,18 +1,17 @@
 -- Loops over a run of bytes: the invariant of each, and one law for each way in, on and out.
-use Prim.Native.Nat.{ℕ, zero, suc, _+_, _*_, _-_, _/_, _%_, _≤_, _<_}
+use Prim.Native.Nat.{ℕ, zero, suc, _+_, _-_, _/_, _%_, _≤_, _<_}
 use mathlib.Core.List.{List, [], _∷_, _++_}
 use mathlib.Core.Path.{_≡_, refl, ap, sym, _∙_}
 use mathlib.Core.Bool.{Bool, true, false}
 use native.Mathlib.Omega.{arith}
 use native.Mathlib.Numerals.{add-one, add-two, add-three}
 use native.Mathlib.Nat.{add-zero, sub-zero, zero-sub}
-use lib.Dec.{eqb}
 use borrow.Author.Tests.{eq-eqb, ne-eqb}
-use lib.ListN.{length, take, drop, getD, set, length-set, length-replicate, getD-replicate, length-drop}
+use lib.ListN.{length, take, drop, getD, set, length-set, length-drop}
 use lib.Seq.{slice, slice-empty, slice-cons, take-suc, take-all, drop-cons, drop-length, take-nil, length-take-le, getD-take, getD-drop}
-use Rattle.storage.specs.Bytes.{be32, be64, splice, zeros, zeroed, same}
+use Rattle.storage.specs.Bytes.{be32, be64, splice, zeros, same}
 use Rattle.storage.proofs.Splice.{sets-splice, splice-append, splice-none}
-use Rattle.storage.proofs.Numbers.{length-be32, length-be64}
+use Rattle.storage.proofs.Numbers.{length-be32}
 
 -- ---- zeros from a to e, looked at up to i
 

@@ -1,5 +1,5 @@
 -- What the answers of this crate's functions say, and what they require.
-use Prim.Native.Nat.{ℕ, _+_, _*_}
+use Prim.Native.Nat.{ℕ}
 use mathlib.Core.List.{List}
 use mathlib.Core.Path.{_≡_}
 use mathlib.Core.Bool.{Bool, true, _&&_, _||_}
@@ -56,10 +56,6 @@ ruleOf Files = rule7
 abbrev pub breachAt : Breach → Option ℕ
 breachAt Nowhere = none
 breachAt (At r) = some (r .0)
-
-abbrev pub placeOf : Option ℕ → ℕ
-placeOf none = 0
-placeOf (some r) = r
 
 -- a test of objects, for any block: free blocks pass
 unfoldable pub spared : (ℕ → Block → Bool) → ℕ → Block → Bool

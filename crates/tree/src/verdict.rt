@@ -6,12 +6,14 @@ use alloc::objects;
 use alloc::tiling::Tiling;
 use storage::Ref;
 ghost use mathlib.Core.Path.{_≡_};
+ghost use Prim.Native.Nat.{_≤_, _<_};
 ghost use Rattle.alloc.specs.Block.{blockOf};
 ghost use Rattle.alloc.specs.Volume.{volumeOf, objects, chained};
 ghost use Rattle.alloc.specs.Sound.{Tiled, Standing};
 ghost use Rattle.tree.specs.Rules.{rootStands};
-ghost use Rattle.tree.specs.Verdict.{breakerOf, keeps, verdictOn, verdict};
-ghost use Rattle.tree.specs.Answers.{ruleOf, breachAt, placeOf, verdictOf, spared, Ready, ReadyAt};
+ghost use Rattle.tree.specs.Verdict.{breakerOf, keeps, unbroken, blockRules, verdictOn, verdict};
+ghost use Rattle.tree.specs.WellFormed.{number};
+ghost use Rattle.tree.specs.Answers.{ruleOf, breachAt, verdictOf, spared, Ready, ReadyAt};
 
 // The rules that are looked at block by block.
 pub enum Rule {
@@ -80,12 +82,35 @@ pub struct Verdict {
     pub place: Ref,
 }
 
-fn place_of(b: Breach) -> Ref
-    ensures { λ r. ⌜ r .0 ≡ placeOf (breachAt b) ⌝ }
+// The rules by their numbers.
+fn rule_of(n: u8) -> Rule
+    requires { ⌜ (3 ≤ n) × (n < 8) ⌝ }
+    ensures { λ r. ⌜ number (ruleOf r) ≡ n ⌝ }
 {
-    match b {
-        Breach::Nowhere => Ref(0),
-        Breach::At(r) => r,
+    match n {
+        3 => Rule::Slots,
+        4 => Rule::Naming,
+        5 => Rule::Depth,
+        6 => Rule::Names,
+        _ => Rule::Files,
+    }
+}
+
+// Rules 3 to 7, in their order.
+fn first_broken(image: &[u8], root: Ref) -> Verdict
+    requires { ⌜ Tiled (now image) ⌝ }
+    ensures { λ v. ⌜ verdictOf v ≡ blockRules (objects (volumeOf (now (image .entry)))) (root .0) unbroken ⌝ }
+{
+    let mut n: u8 = 3;
+    while n < 8 {
+        if let Breach::At(place) = first_breaker(image, rule_of(n), root) {
+            return Verdict { rule: n, place };
+        }
+        n += 1;
+    }
+    Verdict {
+        rule: 0,
+        place: Ref(0),
     }
 }
 
@@ -101,46 +126,12 @@ fn after_tiling(image: &[u8]) -> Verdict
             place: Ref(0),
         };
     }
-    let slots = first_breaker(image, Rule::Slots, root);
-    let Breach::Nowhere = slots else {
-        return Verdict {
-            rule: 3,
-            place: place_of(slots),
-        };
-    };
-    let naming = first_breaker(image, Rule::Naming, root);
-    let Breach::Nowhere = naming else {
-        return Verdict {
-            rule: 4,
-            place: place_of(naming),
-        };
-    };
-    let depth = first_breaker(image, Rule::Depth, root);
-    let Breach::Nowhere = depth else {
-        return Verdict {
-            rule: 5,
-            place: place_of(depth),
-        };
-    };
-    let names = first_breaker(image, Rule::Names, root);
-    let Breach::Nowhere = names else {
-        return Verdict {
-            rule: 6,
-            place: place_of(names),
-        };
-    };
-    let files = first_breaker(image, Rule::Files, root);
-    let Breach::Nowhere = files else {
-        return Verdict {
-            rule: 7,
-            place: place_of(files),
-        };
-    };
+    let found = first_broken(image, root);
+    if found.rule != 0 {
+        return found;
+    }
     if alloc::chain::check(image) {
-        return Verdict {
-            rule: 0,
-            place: Ref(0),
-        };
+        return found;
     }
     Verdict {
         rule: 8,

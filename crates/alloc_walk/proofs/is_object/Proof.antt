@@ -1,6 +1,5 @@
 -- is_object: by the kind.
 use mathlib.Core.Path.{sym, ap}
-use Prim.Native.Nat.{ℕ}
 use lib.Dec.{ltb}
 use Rattle.alloc.specs.Answers.{kindMagic}
 use Rattle.alloc.specs.declared.objects.Kind.{Kind}

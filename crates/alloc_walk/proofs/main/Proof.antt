@@ -1,6 +1,5 @@
 -- main: the sizes are allowed for their kinds.
-use mathlib.Core.Path.{refl, _≡_}
-use Prim.Native.Nat.{ℕ}
+use mathlib.Core.Path.{refl}
 use Rattle.alloc.specs.Tiling.{otherKind}
 use borrow.Author.Needs.{needs}
 use Rattle.alloc_walk.proofs.main.Statement.{statement}

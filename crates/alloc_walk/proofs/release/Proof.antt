@@ -1,5 +1,5 @@
 -- release: the image was found sound, and an object at the ref.
-use mathlib.Core.Path.{sym, ap, subst, _∙_}
+use mathlib.Core.Path.{sym, subst, _∙_}
 use Prim.Native.Nat.{ℕ, _<_}
 use borrow.Author.Tests.{not-false, ltb-true}
 use Rattle.alloc.proofs.Soundness.{sound-tiled}

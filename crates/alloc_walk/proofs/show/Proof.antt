@@ -1,6 +1,5 @@
 -- show: block after block, each inside the image.
 use Prim.Native.Nat.{_-_}
-use mathlib.Core.Path.{refl}
 use borrow.Author.Tests.{not-false}
 use lib.ListN.{length}
 use Rattle.alloc.proofs.Cuts.{Cut, cut-start, cut-fits, cut-on}

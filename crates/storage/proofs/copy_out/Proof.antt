@@ -1,9 +1,8 @@
 -- copy_out: after i turns i bytes are stored.
-use Prim.Native.Nat.{_-_, _+_}
-use mathlib.Core.Path.{refl, sym, _∙_}
+use Prim.Native.Nat.{_-_}
+use mathlib.Core.Path.{sym}
 use native.Mathlib.Nat.{zero-add}
-use lib.ListN.{length, take, drop, length-drop}
-use lib.Seq.{length-take-le, getD-take, getD-drop}
+use lib.ListN.{take, drop}
 use Rattle.storage.proofs.Runs.{Stored, stored-start, stored-on, stored-end, length-part, getD-part}
 use Rattle.storage.proofs.copy_out.Statement.{statement}
 use Rattle.storage.proofs.copy_out.Tie as tie

@@ -1,5 +1,5 @@
 -- check: by the verdict's rule.
-use mathlib.Core.Path.{sym, ap, _∙_}
+use mathlib.Core.Path.{sym, ap}
 use mathlib.Core.Bool.{Bool, cond}
 use Rattle.tree.specs.Verdict.{Verdict}
 use Rattle.calls.proofs.Steps.{formed-so, formed-not}

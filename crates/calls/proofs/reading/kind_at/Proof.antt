@@ -1,5 +1,4 @@
 -- kind_at: by the magic, from the block that stands there.
-use mathlib.Core.Path.{_∙_}
 use Rattle.calls.proofs.Stands.{object-at, object-directory, other-file, directory-stands}
 use Rattle.calls.proofs.Contents.{file-standing, file-numbers, kind-directory, kind-file}
 use borrow.Author.Needs.{needs}

@@ -1,7 +1,8 @@
 -- keeps: by the climb, and where it is deep by the slots.
 use mathlib.Core.Path.{sym, ap, _∙_}
 use Rattle.tree.specs.Answers.{climbed}
-use Rattle.tree.proofs.Tests.{block-directory, block-other, depth-other, depth-lost, depth-low, depth-deep}
+use Rattle.tree.proofs.Rows.{block-directory}
+use Rattle.tree.proofs.Tests.{block-other, depth-other, depth-lost, depth-low, depth-deep}
 use borrow.Author.Needs.{needs}
 use Rattle.tree.proofs.depth.keeps.Statement.{statement}
 use Rattle.tree.proofs.depth.keeps.Tie as tie

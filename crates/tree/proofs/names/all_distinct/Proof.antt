@@ -6,7 +6,7 @@ use mathlib.Core.Path.{_≡_, refl, sym, ap, _∙_}
 use Rattle.alloc.specs.Block.{blockOf}
 use Rattle.alloc.specs.Volume.{volumeOf, objects}
 use Rattle.tree.specs.Rules.{distinct}
-use Rattle.tree.proofs.Rows.{Apart, ApartFrom, apart-start, apart-end, apart-in, apart-out, apart-on, apart-next, left-start, directory-is}
+use Rattle.tree.proofs.Rows.{Apart, ApartFrom, apart-start, apart-end, apart-in, apart-out, apart-on, apart-next, left-start, directory-is, slot-inside}
 use Rattle.tree.proofs.names.all_distinct.Statement.{statement}
 use Rattle.tree.proofs.names.all_distinct.Tie as tie
 use native.Mathlib.Omega.{arith}
@@ -30,7 +30,7 @@ pairs-holds : tie.Need-pairs-holds Inv-loop μ-loop Inv-pairs μ-pairs
 pairs-holds c = (refl, apart-start _ _)
 
 add-j : tie.Need-add-j Inv-loop μ-loop Inv-pairs μ-pairs
-add-j c = omega arith
+add-j c = omega (arith, slot-inside (c .before .before .before .before .pre .directory) (c .before .pairs .i) (omega (arith, c .before .before .slot-count .ensures)))
 
 loop-holds : tie.Need-loop-holds Inv-loop μ-loop Inv-pairs μ-pairs
 loop-holds c = (c .before .pairs .inv .0, apart-in (c .before .pairs .inv .1))

@@ -1,6 +1,7 @@
 -- keeps: the count, and for a directory its parent's slots.
 use mathlib.Core.Path.{sym, _∙_}
-use Rattle.tree.proofs.Tests.{named-root, named-otherwise, named-leaf, named-directory, block-directory, block-other}
+use Rattle.tree.proofs.Rows.{block-directory}
+use Rattle.tree.proofs.Tests.{named-root, named-otherwise, named-leaf, named-directory, block-other}
 use Rattle.tree.proofs.naming.keeps.Statement.{statement}
 use Rattle.tree.proofs.naming.keeps.Tie as tie
 use native.Mathlib.Omega.{arith}

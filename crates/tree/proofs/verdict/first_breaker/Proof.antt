@@ -1,6 +1,5 @@
 -- first_breaker: no object passed breaks the rule, so the rest decides.
 use Prim.Native.Nat.{_-_}
-use mathlib.Core.Path.{_∙_}
 use lib.ListN.{length}
 use borrow.Author.Tests.{not-true, not-false}
 use Rattle.alloc.specs.Volume.{volumeOf, objects}
