@@ -38,4 +38,5 @@ pub mod RemoveStep
 pub mod BytesStep
 pub mod FormatStep
 pub mod Calls
+pub mod Whole
 pub mod Demand
