@@ -1,22 +1,13 @@
 /* Links the static library and calls each changing function of sffs1.h, on document 01's card of 256 bytes. Prints "ok", or the lines that differ. */
 
+#include "expect.h"
 #include "sffs1.h"
 
-#include <stdio.h>
 #include <string.h>
 
 enum { LENGTH = 256 };
 
 static uint8_t card[LENGTH];
-static int failures;
-
-static void expect(const char *what, uint64_t found, uint64_t wanted) {
-    if (found != wanted) {
-        printf("%s: %llu, not %llu\n", what, (unsigned long long)found, (unsigned long long)wanted);
-        failures++;
-    }
-}
-
 /* The 8 bytes at an offset, as a number. */
 static uint64_t word(size_t at) {
     uint64_t n = 0;

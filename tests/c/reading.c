@@ -1,22 +1,13 @@
 /* Links the static library and calls each function of sffs1.h. Prints "ok", or the lines that differ. */
 
+#include "expect.h"
 #include "sffs1.h"
 
-#include <stdio.h>
 #include <string.h>
 
 enum { UNITS = 20, LENGTH = 16 * UNITS };
 
 static uint8_t card[LENGTH];
-static int failures;
-
-static void expect(const char *what, uint64_t found, uint64_t wanted) {
-    if (found != wanted) {
-        printf("%s: %llu, not %llu\n", what, (unsigned long long)found, (unsigned long long)wanted);
-        failures++;
-    }
-}
-
 static void number(size_t at, int bytes, uint64_t value) {
     for (int i = 0; i < bytes; i++) card[at + i] = (uint8_t)(value >> (8 * (bytes - 1 - i)));
 }

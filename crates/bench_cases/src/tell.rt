@@ -8,6 +8,8 @@ use storage::Offset;
 use storage::Ref;
 ghost use Prim.Native.Nat.{_+_, _≤_, _<_};
 ghost use lib.ListN.{length};
+ghost use mathlib.Core.Path.{_≡_};
+ghost use Rattle.changes.specs.Changing as changing;
 
 // The path in quotes, since it may be empty.
 fn say_path(text: &[u8], path: &[u8]) {
@@ -52,7 +54,9 @@ fn say_magic(image: &[u8], at: usize)
     say(&image[at..to]);
 }
 
-pub fn format(image: &mut [u8], slots: u64) {
+pub fn format(image: &mut [u8], slots: u64)
+    ensures { λ _. ⌜ now (image .exit) ≡ (changing.format (now (image .entry)) slots) .image ⌝ }
+{
     say_number(b"format ", image.len() as u64);
     say_number(b" bytes, slots ", slots);
     end(changes::format::format(image, slots).refusal);
@@ -70,33 +74,43 @@ pub fn find(image: &[u8], path: &[u8]) {
     end_at(answer.refusal, answer.at);
 }
 
-pub fn make_directory(image: &mut [u8], path: &[u8], slots: u64) {
+pub fn make_directory(image: &mut [u8], path: &[u8], slots: u64)
+    ensures { λ _. ⌜ now (image .exit) ≡ (changing.make (now (image .entry)) (now (path .entry)) (changing.directory slots)) .image ⌝ }
+{
     let answer = changes::make::directory(image, path, slots);
     say_path(b"make directory ", path);
     say_number(b", slots ", slots);
     end_at(answer.refusal, answer.at);
 }
 
-pub fn make_file(image: &mut [u8], path: &[u8], room: u64) {
+pub fn make_file(image: &mut [u8], path: &[u8], room: u64)
+    ensures { λ _. ⌜ now (image .exit) ≡ (changing.make (now (image .entry)) (now (path .entry)) (changing.file room)) .image ⌝ }
+{
     let answer = changes::make::file(image, path, room);
     say_path(b"make file ", path);
     say_number(b", room ", room);
     end_at(answer.refusal, answer.at);
 }
 
-pub fn remove(image: &mut [u8], path: &[u8]) {
+pub fn remove(image: &mut [u8], path: &[u8])
+    ensures { λ _. ⌜ now (image .exit) ≡ (changing.remove (now (image .entry)) (now (path .entry))) .image ⌝ }
+{
     say_path(b"remove ", path);
     end(changes::remove::remove(image, path).refusal);
 }
 
-pub fn write(image: &mut [u8], path: &[u8], position: u64, bytes: &[u8]) {
+pub fn write(image: &mut [u8], path: &[u8], position: u64, bytes: &[u8])
+    ensures { λ _. ⌜ now (image .exit) ≡ (changing.write (now (image .entry)) (now (path .entry)) position (now (bytes .entry))) .image ⌝ }
+{
     say_path(b"write ", path);
     say_number(b", bytes ", bytes.len() as u64);
     say_number(b" at ", position);
     end(changes::bytes::write(image, path, position, bytes).refusal);
 }
 
-pub fn set_length(image: &mut [u8], path: &[u8], size: u64) {
+pub fn set_length(image: &mut [u8], path: &[u8], size: u64)
+    ensures { λ _. ⌜ now (image .exit) ≡ (changing.setLength (now (image .entry)) (now (path .entry)) size) .image ⌝ }
+{
     say_path(b"set length ", path);
     say_number(b", ", size);
     end(changes::bytes::set_length(image, path, size).refusal);

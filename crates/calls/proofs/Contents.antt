@@ -24,6 +24,9 @@ use Rattle.calls.proofs.Stands.{directory-stands, file-stands}
 
 -- ---- the kind of an object
 
+pub file-no-dir : (b : Block) → isFile b ≡ true → isDir b ≡ false
+file-no-dir b e = let m = eqb-true (b .magic) SFre e in ne-eqb (b .magic) SFde (λ q. omega arith)
+
 pub kind-directory : {s : List ℕ} → AllBytes s → {r : ℕ} (d : DirectoryIn s r) (n m : ℕ) → n ≡ takenCount (slots (blockOf s r)) → m ≡ total (blockOf s r)
     → directory n m ≡ kindOf (blockIn s r)
 kind-directory {s} h {r} d n m e f =
@@ -72,10 +75,7 @@ module _ {s : List ℕ} (h : AllBytes s) {r : ℕ} (f : FileIn s r) where
   kind-file {n} {m} e g =
       ap (λ (x : ℕ). file x (m - 16)) (e ∙ ap fileSize block-is)
       ∙ ap (λ (x : ℕ). file (fileSize (blockIn s r)) x) (ap (λ (x : ℕ). x - 16) g ∙ sym room-is)
-      ∙ sym (ap (λ (t : Bool). cond t (directory (takenCount (slots (blockIn s r))) (total (blockIn s r))) (file (fileSize (blockIn s r)) (room (blockIn s r)))) (no-both (blockIn s r) (f .kind)))
-    where
-      no-both : (b : Block) → isFile b ≡ true → isDir b ≡ false
-      no-both b e = let m = eqb-true (b .magic) SFre e in ne-eqb (b .magic) SFde (λ q. omega arith)
+      ∙ sym (ap (λ (t : Bool). cond t (directory (takenCount (slots (blockIn s r))) (total (blockIn s r))) (file (fileSize (blockIn s r)) (room (blockIn s r)))) (file-no-dir (blockIn s r) (f .kind)))
 
   pub size-low : fileSize (blockIn s r) ≤ sizeAt s r - 16
   size-low = subst (λ (n : ℕ). fileSize (blockIn s r) ≤ n) room-is (formed-file s h (f .formed) r (f .kind) .0)

@@ -1,6 +1,6 @@
 -- A new image with a root directory, and format by its tests.
 use Prim.Native.Nat.{_%_, _*_, _+_, _-_, _/_, _<_, _≤_, ℕ}
-use mathlib.Core.Bool.{Bool, _&&_, _||_, false, false≢true, true}
+use mathlib.Core.Bool.{Bool, _&&_, _||_, false, true}
 use mathlib.Core.List.{List, [], _∷_}
 use mathlib.Core.Option.{Option, none, some}
 use mathlib.Core.Path.{_∙_, _≡_, ap, refl, subst, sym}
@@ -9,7 +9,7 @@ use lib.Dec.{leb, ltb}
 use lib.ListN.{length, length-append, replicate-append-replicate}
 use borrow.Author.Tests.{eq-eqb, le-leb, lt-leb, ltb-false, ltb-true}
 use Rattle.storage.specs.Bytes.{be64, splice, zeroed}
-use Rattle.storage.proofs.Booleans.{and-false, or-elim}
+use Rattle.storage.proofs.Booleans.{and-false, or-elim, or-false}
 use Rattle.storage.proofs.Numbers.{length-be64}
 use Rattle.storage.proofs.Splice.{splice-at}
 use Rattle.alloc.specs.Answers.{Places}
@@ -117,11 +117,7 @@ module _ (lo hi k : ℕ) where
       (λ q. ap (λ (t : Bool). leb lo k && t) (lt-leb k hi (ltb-true hi k q)) ∙ and-false (leb lo k))
 
   pub inside : (ltb k lo || ltb hi k) ≡ false → (lo ≤ k) × (k ≤ hi)
-  inside e = let q = neither (ltb k lo) (ltb hi k) e in (ltb-false k lo (q .0), ltb-false hi k (q .1))
-    where
-      neither : (a b : Bool) → (a || b) ≡ false → (a ≡ false) × (b ≡ false)
-      neither true b q = absurd (false≢true (sym q))
-      neither false b q = (refl, q)
+  inside e = let q = or-false (ltb k lo) (ltb hi k) e in (ltb-false k lo (q .0), ltb-false hi k (q .1))
 
 -- ---- format, by its tests
 

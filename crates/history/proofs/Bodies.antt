@@ -1,14 +1,15 @@
 -- A file's block after a store: its size, its room, and its bytes by the book's rules.
-use Prim.Native.Nat.{_+_, _-_, _<_, _≤_, max, min, suc, zero, ℕ}
+use Prim.Native.Nat.{_+_, _-_, _<_, _≤_, max, min, ℕ}
 use mathlib.Core.Bool.{Bool, false, true}
-use mathlib.Core.List.{List, [], _++_, _∷_, append-assoc, append-nil}
+use mathlib.Core.List.{List, [], _++_, append-assoc, append-nil}
 use mathlib.Core.Path.{_∙_, _≡_, ap, ap₂, refl, sym}
-use native.Mathlib.Nat.{sub-zero, zero-add, zero-sub}
+use native.Mathlib.Nat.{zero-add}
 use native.Mathlib.Omega.{arith}
 use lib.Dec.{leb}
 use lib.ListN.{drop, drop-of-length-le, length, length-append, length-drop, take, take-append-drop}
-use lib.Seq.{drop-at, drop-drop, length-take-le, take-all, take-append-add, take-at, take-nil, take-take}
+use lib.Seq.{drop-at, drop-drop, length-take-le, take-all, take-append-add, take-at, take-take}
 use borrow.Author.Tests.{leb-false, leb-true}
+use Rattle.storage.proofs.Runs.{drop-take}
 use Rattle.storage.specs.Bytes.{be32, be64, splice, u64At, zeroed}
 use Rattle.storage.proofs.Numbers.{length-be64, u64-before, u64-behind, u64-written}
 use Rattle.storage.proofs.Splice.{length-splice, splice-right}
@@ -94,13 +95,6 @@ module _ (b : Block) (size from : ℕ) (x : List ℕ) (whole : 16 ≤ length (b 
 
 -- ---- a file's bytes in its room
 
--- the part of a list behind a position, of its front
-drop-front : (m n : ℕ) (l : List ℕ) → drop m (take n l) ≡ take (n - m) (drop m l)
-drop-front zero n l = rw (sub-zero n)
-drop-front (suc m) zero l = rw (zero-sub (suc m))
-drop-front (suc m) (suc n) [] = rw (take-nil (suc n - suc m))
-drop-front (suc m) (suc n) (x ∷ l) = let e : suc n - suc m ≡ n - m = omega arith in rw e (drop-front m n l)
-
 module _ (d x : List ℕ) (p size : ℕ) (inside : p + length x ≤ length d) (fits : size ≤ length d) where
   long : length (take size d) ≡ size
   long = length-take-le size d fits
@@ -111,7 +105,7 @@ module _ (d x : List ℕ) (p size : ℕ) (inside : p + length x ≤ length d) (f
   over h =
       let e : max size (p + length x) ≡ p + (length x + (size - (p + length x))) = omega arith in
       let f : length (take p d) ≡ p = length-take-le p d (omega arith) in
-      rw (e, take-take p size d h, drop-front (p + length x) size d)
+      rw (e, take-take p size d h, drop-take (p + length x) size d)
       (take-two p (take p d) (x ++ drop (p + length x) d) (length x + (size - (p + length x))) f
       ∙ ap (λ (y : List ℕ). take p d ++ y) (take-two (length x) x (drop (p + length x) d) (size - (p + length x)) refl))
     where

@@ -5,7 +5,8 @@ use mathlib.Core.List.{List, [], _++_, _∷_, append-nil}
 use mathlib.Core.Path.{_∙_, _≡_, ap, ap₂, refl, sym}
 use native.Mathlib.Nat.{zero-add}
 use native.Mathlib.Omega.{arith}
-use lib.ListN.{getD, length, length-append, set}
+use lib.ListN.{getD, length, set}
+use Rattle.changes.proofs.Making.{slot-length}
 use Rattle.storage.specs.Bytes.{be64, splice, u64At}
 use Rattle.storage.proofs.Numbers.{be64-read, length-be64, u64-agree, u64-before, u64-behind, u64-right}
 use Rattle.storage.proofs.Splice.{length-splice, splice-inside}
@@ -20,12 +21,9 @@ use Rattle.history.proofs.Walks.{total-row}
 abbrev pub slotted : Block → ℕ → ℕ → ℕ → Block
 slotted b i n o = spliced b (8 + 16 * i) (be64 n ++ be64 o)
 
-length-pair : (n o : ℕ) → length (be64 n ++ be64 o) ≡ 16
-length-pair n o = omega (arith, length-append (be64 n) (be64 o), length-be64 n, length-be64 o)
-
 module _ (b : Block) (i n o : ℕ) (inside : i < total b) where
   fits : 8 + 16 * i + length (be64 n ++ be64 o) ≤ length (b .body)
-  fits = omega (arith, length-pair n o)
+  fits = omega (arith, slot-length n o)
 
   -- the size stays, and the parent
   pub slotted-length : length (slotted b i n o .body) ≡ length (b .body)
@@ -43,7 +41,7 @@ module _ (b : Block) (i n o : ℕ) (inside : i < total b) where
   behind : (j : ℕ) → i < j → slotAt (slotted b i n o) j ≡ slotAt b j
   behind j h =
       let u = u64-behind (b .body) (be64 n ++ be64 o) (8 + 16 * i) fits in
-      ap₂ (λ (x y : ℕ). (x, y)) (u (8 + 16 * j) (omega (arith, length-pair n o))) (u (16 + 16 * j) (omega (arith, length-pair n o)))
+      ap₂ (λ (x y : ℕ). (x, y)) (u (8 + 16 * j) (omega (arith, slot-length n o))) (u (16 + 16 * j) (omega (arith, slot-length n o)))
 
   rest : (j k : ℕ) → i < j → slotsFrom (slotted b i n o) j k ≡ slotsFrom b j k
   unfolding slotsFrom
@@ -56,7 +54,7 @@ module _ (b : Block) (i n o : ℕ) (inside : i < total b) where
     inside-is =
         let x : List ℕ = be64 n ++ be64 o in
         let s : (j : ℕ) → j < 16 → getD (splice (b .body) (8 + 16 * i) x) (8 + 16 * i + j) 0 ≡ getD x j 0 =
-        λ j h. splice-inside (b .body) x (8 + 16 * i) j fits (omega (arith, length-pair n o)) in
+        λ j h. splice-inside (b .body) x (8 + 16 * i) j fits (omega (arith, slot-length n o)) in
         let e : u64At (slotted b i n o .body) (8 + 16 * i) ≡ u64At x 0 =
         u64-agree (slotted b i n o .body) x (8 + 16 * i) 0 (λ j h. s j (omega arith) ∙ ap (λ (m : ℕ). getD x m 0) (sym (zero-add j))) in
         let a : (j : ℕ) → 8 + 16 * i + (8 + j) ≡ 16 + 16 * i + j = λ j. omega arith in

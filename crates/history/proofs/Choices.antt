@@ -1,6 +1,6 @@
 -- Small laws of tests, and of an index counted from one slot before.
 use Prim.Native.Nat.{suc, ℕ}
-use mathlib.Core.Bool.{Bool, _||_, false, true, true≢false}
+use mathlib.Core.Bool.{Bool, false, true, true≢false}
 use mathlib.Core.List.{List}
 use mathlib.Core.Option.{Option, none, some}
 use mathlib.Core.Path.{_∙_, _≡_, ap, refl, sym}
@@ -26,8 +26,3 @@ same-other v w h = go (same w v) refl
     go : (q : Bool) → same w v ≡ q → q ≡ false
     go false e = refl
     go true e = absurd (true≢false (sym (same-refl v) ∙ ap (same v) (sym (same-eq w v e)) ∙ h))
-
--- neither test passes
-pub or-false : (p q : Bool) → (p || q) ≡ false → (p ≡ false) × (q ≡ false)
-or-false true q e = absurd (true≢false e)
-or-false false q e = (refl, e)

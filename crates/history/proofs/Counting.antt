@@ -7,6 +7,7 @@ use mathlib.Core.Path.{_∙_, _≡_, ap, refl, subst, sym}
 use native.Mathlib.Omega.{arith}
 use lib.Dec.{eqb}
 use borrow.Author.Tests.{eq-eqb, eqb-false, eqb-true, ne-eqb}
+use Rattle.history.proofs.Tested.{name-no-dir, name-no-file}
 use Rattle.storage.proofs.Booleans.{and-true}
 use Rattle.alloc.specs.Block.{Block}
 use Rattle.alloc.specs.Volume.{Objects, blockAt}
@@ -131,14 +132,10 @@ namings-one n r ss = rw (eqb-sym n r) (go (eqb r n))
     go true = omega arith
     go false = omega arith
 
--- a name block is no object
-pub name-not : (b : Block) → isName b ≡ true → (isFile b ≡ false) × (isDir b ≡ false)
-name-not b h = (rw (eqb-true (b .magic) _ h), rw (eqb-true (b .magic) _ h))
-
 module _ (os : Objects) (s : Slot) where
   apart : isName (blockAt os (s .0)) ≡ true → (isFile (blockAt os (s .1)) ≡ true) ⊎ (isDir (blockAt os (s .1)) ≡ true) → s .0 ≡ s .1 → ⊥
-  apart n (inl k) e = false≢true (sym (name-not (blockAt os (s .0)) n .0) ∙ rw e k)
-  apart n (inr k) e = false≢true (sym (name-not (blockAt os (s .0)) n .1) ∙ rw e k)
+  apart n (inl k) e = false≢true (sym (name-no-file (blockAt os (s .0)) n) ∙ rw e k)
+  apart n (inr k) e = false≢true (sym (name-no-dir (blockAt os (s .0)) n) ∙ rw e k)
 
   object-there : (isFile (blockAt os (s .1)) ≡ true) ⊎ (isDir (blockAt os (s .1)) ≡ true) → 1 ≤ times (s .1) os
   object-there (inl k) = there os (s .1) (formed.file-there (blockAt os (s .1)) k)

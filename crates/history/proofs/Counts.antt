@@ -3,13 +3,14 @@ use Prim.Native.Nat.{_≤_, suc, ℕ}
 use mathlib.Core.Path.{_∙_, _≡_, ap, ap₂, refl, sym}
 use native.Mathlib.Omega.{arith}
 use lib.ListN.{drop, length, length-drop, length-take}
+use Rattle.calls.proofs.Contents.{file-no-dir}
 use Rattle.alloc.specs.Block.{Block}
 use Rattle.tree.specs.Fields.{content, fileSize, room, takenCount}
 use Rattle.calls.specs.Reading as reading
 use Rattle.calls.specs.Reading.{directory, kindOf}
 use Rattle.history.specs.Claim.{slotsIn, takenIn}
 use Rattle.history.proofs.Nodes.{DirNode, FileNode, Node, Stands, bookOf, dir, empty, end, file, slotsOf}
-use Rattle.history.proofs.Walks.{file-not, taken-some, total-row}
+use Rattle.history.proofs.Walks.{taken-some, total-row}
 
 -- taken slots
 taken-count : (up : ℕ) (c : Node) → Stands up c → takenCount (slotsOf c) ≡ takenIn (bookOf c)
@@ -40,4 +41,4 @@ size-content b h = rw (length-take (fileSize b) (drop 16 (b .body)), length-drop
 
 -- a file
 pub file-kind : (r : ℕ) (b : Block) → FileNode r b → kindOf b ≡ reading.file (length (content b)) (room b)
-file-kind r b h = rw (file-not b (h .isFile)) (ap (λ (n : ℕ). reading.file n (room b)) (size-content b (h .fits)))
+file-kind r b h = rw (file-no-dir b (h .isFile)) (ap (λ (n : ℕ). reading.file n (room b)) (size-content b (h .fits)))

@@ -6,6 +6,7 @@ use mathlib.Core.Option.{none}
 use mathlib.Core.Path.{_≡_, refl}
 use native.Mathlib.Omega.{arith}
 use borrow.Author.Tests.{eq-eqb, le-leb, ne-eqb}
+use Rattle.calls.proofs.Contents.{file-no-dir}
 use Rattle.alloc.specs.Block.{Block}
 use Rattle.alloc.specs.Volume.{Objects, objects, volumeOf}
 use Rattle.alloc.proofs.Soundness.{sound-chained, sound-tiled}
@@ -19,7 +20,7 @@ use Rattle.history.proofs.Good.{Good}
 use Rattle.history.proofs.Naming.{naming-kept}
 use Rattle.history.proofs.Nodes.{Among, Node, Rep, Stands, dir, empty, end, file, named, slotsOf}
 use Rattle.history.proofs.Tested.{Nothing, all-good, dir-no-file, dir-no-name, file-no-name, name-no-dir, name-no-file}
-use Rattle.history.proofs.Walks.{among-top, file-not, file-there, name-there, of-dir, rest-of, root-there, row-of, taken-some}
+use Rattle.history.proofs.Walks.{among-top, file-there, name-there, of-dir, rest-of, root-there, row-of, taken-some}
 
 module _ {os : Objects} {root : ℕ} {rb : Block} {top : Node} (q : Rep os root rb top) where
   -- ---- rule 2
@@ -63,7 +64,7 @@ module _ {os : Objects} {root : ℕ} {rb : Block} {top : Node} (q : Rep os root 
   slots-kept =
       all-good os (q .once) (keeps rule3 os root) Nothing
       (λ n a i h. rw (slots-other a (name-no-dir a (h .isName))))
-      (λ r b i h. rw (slots-other b (file-not b (h .isFile))))
+      (λ r b i h. rw (slots-other b (file-no-dir b (h .isFile))))
       (λ up t k. tt) (λ up n r a b t k. tt) (λ up n r a b c t k. tt)
       (λ up n r a b c t i s h k. (rw (s .1 .slots) (slots-stand r c (s .3) (row-of os (q .once) n r a b c t h)), tt))
       root rb top q (rw (q .top .slots) (slots-stand root top (q .row) (among-top os root rb top q))) tt
@@ -101,7 +102,7 @@ module _ {os : Objects} {root : ℕ} {rb : Block} {top : Node} (q : Rep os root 
   names-kept =
       all-good os (q .once) (namesStand os) Nothing
       (λ n a i h. rw (h .isName, h .valid, slots-other a (name-no-dir a (h .isName))))
-      (λ r b i h. rw (file-no-name b (h .isFile), slots-other b (file-not b (h .isFile))))
+      (λ r b i h. rw (file-no-name b (h .isFile), slots-other b (file-no-dir b (h .isFile))))
       (λ up t k. tt) (λ up n r a b t k. tt) (λ up n r a b c t k. tt)
       (λ up n r a b c t i s h k.
       (rw (dir-no-name b (s .1 .isDir), s .1 .slots) (all-distinct r c (s .3) (row-of os (q .once) n r a b c t h)), tt))

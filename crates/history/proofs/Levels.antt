@@ -8,6 +8,7 @@ use native.Mathlib.Omega.{arith}
 use lib.Dec.{eqb}
 use lib.ListN.{length}
 use borrow.Author.Tests.{eqb-false, eqb-true, not-true}
+use Rattle.history.proofs.Tested.{name-no-dir}
 use Rattle.storage.specs.Bytes.{same}
 use Rattle.storage.proofs.Booleans.{and-true}
 use Rattle.alloc.specs.Volume.{Objects, blockAt}
@@ -20,7 +21,7 @@ use Rattle.tree.proofs.Formed as formed
 use Rattle.tree.proofs.Formed.{Filled, slot-filled}
 use Rattle.tree.proofs.Indexed.{slots-distinct, slots-every, slots-other}
 use Rattle.tree.proofs.Namings.{Rises}
-use Rattle.history.proofs.Counting.{kids, name-not, named-sum, pairOf, pairsOf, sum-at, sum-split, there}
+use Rattle.history.proofs.Counting.{kids, named-sum, pairOf, pairsOf, sum-at, sum-split, there}
 use Rattle.history.proofs.Nodes.{FileNode, NameNode, Node, Rep, Stands, dir, empty, end, file, height, named, slotsOf, sumOf}
 use Rattle.history.proofs.Refs.{times-below, times-once}
 use Rattle.history.proofs.Sums.{Item, sum}
@@ -296,10 +297,10 @@ module _ (os : Objects) (root : ℕ) (rises : Rises 2 os) (top : RootStands os r
       go (is-empty a b) q x w = rw (row-empty os (rowAt os k) s ss (empty-taken s b), b) (omega arith)
       go (is-taken a b c d) false x w =
           let t = taken-some (s .0) (s .1) b in
-          rw (row-file os (rowAt os k) s ss t x, t, row-leaf os k (s .0) (name-not (blockAt os (s .0)) c .1), row-leaf os k (s .1) x) (omega arith)
+          rw (row-file os (rowAt os k) s ss t x, t, row-leaf os k (s .0) (name-no-dir (blockAt os (s .0)) c), row-leaf os k (s .1) x) (omega arith)
       go (is-taken a b c d) true x w =
           let t = taken-some (s .0) (s .1) b in
-          rw (row-dir os (rowAt os k) s ss t x, t, row-leaf os k (s .0) (name-not (blockAt os (s .0)) c .1)) (omega arith)
+          rw (row-dir os (rowAt os k) s ss t x, t, row-leaf os k (s .0) (name-no-dir (blockAt os (s .0)) c)) (omega arith)
 
   -- with 17 levels every row is whole
   level : (f : Item → ℕ) (r : ℕ) → sumOf f (rowAt os 17 r) ≡ kids (reach 17 f) os (r, blockAt os r)

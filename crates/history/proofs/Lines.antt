@@ -4,6 +4,7 @@ use mathlib.Core.Bool.{true}
 use mathlib.Core.List.{List, [], _++_, _∷_}
 use mathlib.Core.Path.{_≡_, ap, refl}
 use native.Mathlib.Omega.{arith}
+use Rattle.calls.proofs.Contents.{file-no-dir}
 use Rattle.alloc.specs.Block.{Block}
 use Rattle.alloc.specs.Volume.{Objects, blockAt}
 use Rattle.tree.specs.Fields.{isFile, slots}
@@ -11,7 +12,7 @@ use Rattle.tree.proofs.Indexed.{slots-other}
 use Rattle.history.specs.Listing.{Line, lineOf, objectLines, slotLines}
 use Rattle.history.proofs.Nodes.{Among, DirNode, Node, Rep, Stands, dir, empty, end, file, height, slotsOf}
 use Rattle.history.proofs.Sums.{times}
-use Rattle.history.proofs.Walks.{among-top, file-not, file-there, of-dir, rest-of, root-there, row-of, taken-some}
+use Rattle.history.proofs.Walks.{among-top, file-there, of-dir, rest-of, root-there, row-of, taken-some}
 
 -- a row's lines: up is the directory, d the depth of its objects
 abbrev pub rowLines : ℕ → ℕ → Node → List Line
@@ -43,7 +44,7 @@ module _ (os : Objects) (once : (r : ℕ) → times r os ≤ 1) where
   file-lines : (k r up n d : ℕ) (b : Block) → blockAt os r ≡ b → isFile b ≡ true → objectLines k os r up n d ≡ lineOf r up n d b ∷ []
   unfolding slotLines
   file-lines zero r up n d b e h = rw (lines-none, e)
-  file-lines (suc k) r up n d b e h = rw (lines-more, e, slots-other b (file-not b h))
+  file-lines (suc k) r up n d b e h = rw (lines-more, e, slots-other b (file-no-dir b h))
 
   -- the slots of a row, where k levels are enough for what is below them
   row-lines : (k up d : ℕ)

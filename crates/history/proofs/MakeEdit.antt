@@ -6,13 +6,14 @@ use mathlib.Core.Option.{Option, none, some}
 use mathlib.Core.Path.{_∙_, _≡_, ap, refl, subst, sym}
 use native.Mathlib.Omega.{arith}
 use lib.ListN.{length, set}
+use Rattle.storage.proofs.Booleans.{or-false}
 use Rattle.storage.specs.Bytes.{same}
 use Rattle.alloc.specs.Block.{Block}
 use Rattle.tree.specs.Fields.{Slot, content, room}
 use Rattle.calls.specs.Walk.{onward}
 use Rattle.changes.specs.Changing.{New, directory}
 use Rattle.history.specs.Book.{added, dirSlot, fileSlot, keep}
-use Rattle.history.proofs.Choices.{onward-none, onward-some, or-false, same-other}
+use Rattle.history.proofs.Choices.{onward-none, onward-some, same-other}
 use Rattle.history.proofs.EmptyRow.{empty-book, empty-height, empty-stands, empty-sum, emptyRow}
 use Rattle.history.proofs.NewBlocks.{NewNode}
 use Rattle.history.proofs.Nodes.{NameNode, Node, Stands, bookOf, dir, empty, end, file, height, named, slotsOf, sumOf}

@@ -6,7 +6,7 @@ use mathlib.Core.Option.{Option, none, some}
 use mathlib.Core.Path.{_∙_, _≡_, refl, subst, sym}
 use native.Mathlib.Omega.{arith}
 use lib.ListN.{length, length-append}
-use borrow.Author.Tests.{eq-eqb}
+use Rattle.history.proofs.Tested.{here-self}
 use Rattle.storage.specs.Bytes.{be64}
 use Rattle.storage.proofs.Numbers.{length-be64}
 use Rattle.path.specs.Name.{validName}
@@ -36,9 +36,6 @@ use Rattle.history.proofs.Sighted.{Answered, counted-has, good-volume, 
 use Rattle.history.proofs.Sights.{Seen}
 use Rattle.history.proofs.Sums.{here, sum-this-le, this}
 use Rattle.history.proofs.Walks.{empty-row, indexEmpty, named-row, total-row}
-
-here-self : (r : ℕ) (b : Block) → here r (r, b) ≡ 1
-here-self r b = rw (eq-eqb r r refl)
 
 -- ---- both blocks placed, and the slot set
 

@@ -7,6 +7,7 @@ use mathlib.Core.Path.{_≡_, ap, refl, sym}
 use native.Mathlib.Omega.{arith}
 use lib.Dec.{eqb}
 use borrow.Author.Tests.{eq-eqb, eqb-false, eqb-true, ne-eqb}
+use Rattle.calls.proofs.Contents.{file-no-dir}
 use Rattle.alloc.specs.Block.{Block}
 use Rattle.alloc.specs.Volume.{Objects, blockAt}
 use Rattle.tree.specs.Fields.{Slot, isDir, slots}
@@ -16,7 +17,7 @@ use Rattle.tree.proofs.Indexed.{slots-other}
 use Rattle.history.proofs.Nodes.{Node, Rep, Stands, dir, empty, end, file, slotsOf, sumOf}
 use Rattle.history.proofs.Sums.{Item, here, sum, times}
 use Rattle.history.proofs.Tested.{all-good, here-self, name-no-dir}
-use Rattle.history.proofs.Walks.{file-not, file-there, of-dir, root-there}
+use Rattle.history.proofs.Walks.{file-there, of-dir, root-there}
 
 -- how many slots of a block name r
 abbrev named-by : ℕ → Item → ℕ
@@ -67,7 +68,7 @@ names-row r i up (file n o a b t) s h =
       slot-names (eqb n r) (eqb o r) (namings r (slotsOf t)) (omega arith),
       names-row r i up t (s .3) (omega arith),
       nothing-named r a (name-no-dir a (s .0 .isName)),
-      nothing-named r b (file-not b (s .1 .isFile)),
+      nothing-named r b (file-no-dir b (s .1 .isFile)),
     )
 names-row r i up (dir n o a b c t) s h =
     omega (
@@ -121,7 +122,7 @@ module _ {os : Objects} {root : ℕ} {rb : Block} {top : Node} (q : Rep os root 
   naming-kept =
       all-good os (q .once) (namedOnce os root) (Within os)
       (λ n a i h. rw (once-named n (h .some) i, name-no-dir a (h .isName)))
-      (λ r b i h. rw (once-named r (h .some) i, file-not b (h .isFile)))
+      (λ r b i h. rw (once-named r (h .some) i, file-no-dir b (h .isFile)))
       (λ up t k r. omega (arith, k r, naming-step r 0 0 (slotsOf t)))
       (λ up n o a b t k r. omega (arith, k r, naming-step r n o (slotsOf t)))
       (λ up n o a b c t k r. omega (arith, k r, naming-step r n o (slotsOf t)))

@@ -6,6 +6,8 @@ use mathlib.Core.Option.{Option, some}
 use mathlib.Core.Path.{_≡_, ap, refl, subst, sym}
 use native.Mathlib.Omega.{arith}
 use lib.ListN.{getD, length, set}
+use Rattle.calls.proofs.Contents.{file-no-dir}
+use Rattle.storage.proofs.Booleans.{or-false}
 use Rattle.storage.specs.Bytes.{same}
 use Rattle.alloc.specs.Block.{Block}
 use Rattle.tree.specs.Fields.{Slot, content, room, slots, takenCount}
@@ -13,10 +15,10 @@ use Rattle.tree.proofs.Formed.{dir-there, file-there}
 use Rattle.tree.proofs.Indexed.{slots-other}
 use Rattle.calls.specs.Walk.{onward}
 use Rattle.history.specs.Book.{Tree, dirSlot, emptied, fileSlot, keep}
-use Rattle.history.proofs.Choices.{onward-some, or-false}
+use Rattle.history.proofs.Choices.{onward-some}
 use Rattle.history.proofs.Nodes.{NameNode, Node, Stands, bookOf, dir, empty, end, file, height, named, slotsOf, sumOf}
 use Rattle.history.proofs.Sums.{Item}
-use Rattle.history.proofs.Walks.{file-not, indexNamed, taken-some}
+use Rattle.history.proofs.Walks.{indexNamed, taken-some}
 
 -- an object and its name, each a ref and a block, and the row below the object
 pub record Held : Type 0 where
@@ -110,7 +112,7 @@ module _ (w : List ℕ) (up : ℕ) where
           below = end;
           named-so = s .0;
           real = file-there b (s .1 .isFile);
-          below-slots = slots-other b (file-not b (s .1 .isFile));
+          below-slots = slots-other b (file-no-dir b (s .1 .isFile));
           below-stands = tt;
         };
         slot = refl;

@@ -8,6 +8,7 @@ use native.Mathlib.Omega.{arith}
 use lib.Dec.{eqb}
 use lib.ListN.{length}
 use borrow.Author.Tests.{ne-eqb}
+use Rattle.calls.proofs.Contents.{file-no-dir}
 use Rattle.alloc.specs.Block.{Block}
 use Rattle.alloc.specs.Sound.{SoundVolume}
 use Rattle.alloc.specs.Volume.{Objects, Volume, image, objects, volumeOf}
@@ -24,7 +25,7 @@ use Rattle.history.proofs.Moves.{Has, has-block}
 use Rattle.history.proofs.Nodes.{Node, Rep, Sought, aDir, aFile, barred, bookOf, height, nowhere, seek, walkOf}
 use Rattle.history.proofs.Sights.{Seen, seen-seek, weight, weight-seek}
 use Rattle.history.proofs.Sums.{Item, sum, this, this-self}
-use Rattle.history.proofs.Walks.{file-not, walk-is}
+use Rattle.history.proofs.Walks.{walk-is}
 
 -- ---- the answer m of a call, and the book t′ that it would leave accepted
 
@@ -93,7 +94,7 @@ module _ {n : ℕ} {s : List ℕ} {t : Tree} (g : Good n s t) where
             let i : o ≡ d = cc in
             let f = sought-seen (aFile o b) q in
             let y = has-block (counted-has o b (file-there b (f .isFile)) (sought-weight (aFile o b) q)) in
-            absurd (true≢false (sym k ∙ ap (λ (r : ℕ). isDir (blockIn s r)) (sym i) ∙ ap isDir y ∙ file-not b (f .isFile)))
+            absurd (true≢false (sym k ∙ ap (λ (r : ℕ). isDir (blockIn s r)) (sym i) ∙ ap isDir y ∙ file-no-dir b (f .isFile)))
         go (aDir o b c) q h =
             let i : o ≡ d = cc in
             let f = sought-seen (aDir o b c) q in
@@ -116,4 +117,4 @@ module _ {n : ℕ} {s : List ℕ} {t : Tree} (g : Good n s t) where
             let i : o ≡ r = cc in
             let f = sought-seen (aDir o b c) q in
             let y = has-block (counted-has o b (dir-there b (f .0 .1 .isDir)) (λ h. omega (arith, sought-weight (aDir o b c) q h))) in
-            absurd (true≢false (sym (f .0 .1 .isDir) ∙ ap isDir (sym y) ∙ ap (λ (u : ℕ). isDir (blockIn s u)) i ∙ file-not (blockIn s r) k))
+            absurd (true≢false (sym (f .0 .1 .isDir) ∙ ap isDir (sym y) ∙ ap (λ (u : ℕ). isDir (blockIn s u)) i ∙ file-no-dir (blockIn s r) k))

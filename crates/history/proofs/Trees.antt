@@ -5,6 +5,7 @@ use mathlib.Core.List.{List, [], _∷_}
 use mathlib.Core.Path.{_∙_, _≡_, ap, refl, sym}
 use native.Mathlib.Omega.{arith}
 use lib.ListN.{length}
+use Rattle.calls.proofs.Contents.{file-no-dir}
 use Rattle.storage.proofs.Numbers.{AllBytes}
 use Rattle.alloc.specs.Block.{Block}
 use Rattle.alloc.specs.Volume.{Objects, blockAt, objects, volumeOf}
@@ -19,7 +20,7 @@ use Rattle.history.proofs.Good.{Good}
 use Rattle.history.proofs.Levels.{row-at, row-dir, row-empty, row-end, row-file, rowAt, rowOf, tree-stands}
 use Rattle.history.proofs.Nodes.{Among, Node, Rep, Stands, bookOf, dir, empty, end, file, height, slotsOf}
 use Rattle.history.proofs.Sums.{times}
-use Rattle.history.proofs.Walks.{among-top, file-not, file-there, name-there, of-dir, rest-of, root-there, row-of, taken-some}
+use Rattle.history.proofs.Walks.{among-top, file-there, name-there, of-dir, rest-of, root-there, row-of, taken-some}
 
 -- ---- the book of a row that is read off
 
@@ -86,7 +87,7 @@ module _ (os : Objects) (once : (r : ℕ) → times r os ≤ 1) where
   row-again k up (empty t) s h l = row-empty os (rowAt os k) (0, 0) (slotsOf t) refl ∙ ap empty (row-again k up t s h l)
   row-again k up (file n r a b t) s h l =
       let e = file-there os once n r a b t h in
-      row-file os (rowAt os k) (n, r) (slotsOf t) (taken-some n r (s .1 .some)) (rw e (file-not b (s .1 .isFile)))
+      row-file os (rowAt os k) (n, r) (slotsOf t) (taken-some n r (s .1 .some)) (rw e (file-no-dir b (s .1 .isFile)))
       ∙ rw (e, name-there os once n r a b t h, row-again k up t (s .3) (rest-of os once n r a b t h) (omega arith))
   row-again zero up (dir n r a b c t) s h l = absurd (omega arith)
   row-again (suc k) up (dir n r a b c t) s h l =

@@ -8,7 +8,8 @@ use mathlib.Core.Path.{_∙_, _≡_, ap, refl, sym}
 use native.Mathlib.Nat.{zero-add}
 use native.Mathlib.Omega.{arith}
 use lib.ListN.{getD, length}
-use borrow.Author.Tests.{eqb-true, ne-eqb}
+use borrow.Author.Tests.{ne-eqb}
+use Rattle.calls.proofs.Contents.{file-no-dir}
 use Rattle.storage.specs.Bytes.{same}
 use Rattle.alloc.specs.Block.{Block}
 use Rattle.alloc.specs.Volume.{Objects, blockAt}
@@ -22,10 +23,6 @@ use Rattle.history.proofs.Sums.{looked-up, this, this-self, times}
 -- a slot with an object's ref above 0 is taken
 pub taken-some : (n r : ℕ) → 0 < r → taken (n, r) ≡ true
 taken-some n r h = rw (ne-eqb r 0 (λ e. omega arith))
-
--- a file is no directory
-pub file-not : (b : Block) → isFile b ≡ true → isDir b ≡ false
-file-not b h = rw (eqb-true (b .magic) _ h)
 
 -- two choices by one test
 pub choice {ℓ} : {A B : Type 0} {C : Type ℓ} (g : A → C) (k : B → C) (q : Bool) (x y : A) (u v : B) → g x ≡ k u → g y ≡ k v
@@ -136,7 +133,7 @@ module _ (os : Objects) (once : (r : ℕ) → times r os ≤ 1) where
   walk-file : (ws : List (List ℕ)) (r : ℕ) (b : Block) → blockAt os r ≡ b → isFile b ≡ true → walk os r ws ≡ walkOf (atFile ws r b)
   unfolding walk step
   walk-file [] r b e h = refl
-  walk-file (w ∷ ws) r b e h = rw (walk, step, e, file-not b h)
+  walk-file (w ∷ ws) r b e h = rw (walk, step, e, file-no-dir b h)
 
   child-onward : (ss : List Slot) (s : Slot) (o : Option ℕ) → childOf (s ∷ ss) (onward o) ≡ childOf ss o
   child-onward ss s none = refl

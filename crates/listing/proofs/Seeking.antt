@@ -1,6 +1,6 @@
 -- Line i of a row of lines, and of the lines of an object and of a directory's slots.
 use Prim.Native.Nat.{_+_, _-_, _<_, _≤_, suc, zero, ℕ}
-use mathlib.Core.Bool.{cond, false, true}
+use mathlib.Core.Bool.{false, true}
 use mathlib.Core.List.{List, [], _++_, _∷_}
 use mathlib.Core.Path.{_∙_, _≡_, ap, refl, subst, sym}
 use native.Mathlib.Numerals.{add-one}
@@ -9,7 +9,7 @@ use lib.ListN.{length}
 use borrow.Author.Tests.{eq-eqb, ne-eqb}
 use Rattle.storage.proofs.Numbers.{AllBytes}
 use Rattle.alloc.specs.Volume.{Objects, blockAt, objects, volumeOf}
-use Rattle.tree.specs.Fields.{Slot, isDir, slotAt, taken, total}
+use Rattle.tree.specs.Fields.{Slot, isDir, slotAt, total}
 use Rattle.tree.proofs.Indexed.{slots-other}
 use Rattle.tree.proofs.Rows.{left, left-end, left-start, left-step}
 use Rattle.calls.specs.Answers.{DirectoryIn, ObjectAt}
