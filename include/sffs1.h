@@ -1,8 +1,13 @@
 /* sffs1, the single-file filesystem version 1: a file store in one image of bytes.
 
-   Every call answers for every image, path and number: nothing need be checked before. It returns 0 where it is
-   accepted, or the number of its refusal (README.md). A refusal sets every lent number to 0 (but for the count of a listing) and
-   changes no byte of a buffer or of the image. Lent numbers, buffers and images must not overlap. */
+   Every call answers for every image, path and number: nothing need be checked before. It returns SFFS1_DONE where it
+   is accepted, or the number of its refusal. A refusal sets every lent number to 0 (but for the place, and the count of
+   a listing) and changes no byte of a buffer or of the image. Lent numbers, buffers and images must not overlap.
+
+   Every call but format first judges the image. Where it is not well formed, the call is refused with 20 + the lowest
+   rule that is broken, and the place is the ref of the first block, in storage order, that breaks this rule. (A ref
+   counts units of 16 bytes from the front of the image.) The place is 0 for a wrong length, for a broken first block,
+   for rules 2 and 8, and beside every other number. Every call sets it. */
 
 #ifndef SFFS1_H
 #define SFFS1_H
@@ -14,50 +19,86 @@
 extern "C" {
 #endif
 
-/* Whether the image is well formed: 0, or 1 where it is not. */
-uint8_t sffs1_check(const uint8_t *image, size_t image_len);
+/* The answers. */
+enum {
+    SFFS1_DONE = 0,
+    SFFS1_BAD_LENGTH = 1,        /* format: the length of the image is not allowed */
+    SFFS1_BAD_PATH = 2,          /* the path is not valid, or has over 16 components */
+    SFFS1_NOT_FOUND = 3,         /* a component is not there (for a make: one before the last) */
+    SFFS1_NOT_A_DIRECTORY = 4,   /* a component before the last is a file */
+    SFFS1_IS_A_DIRECTORY = 5,    /* read, read point, write or set length names a directory */
+    SFFS1_EXISTS = 6,            /* what is to be made is there already, the root included */
+    SFFS1_NO_SLOT = 7,           /* no slot is empty */
+    SFFS1_NO_ROOM = 8,           /* no free room (format: the image is too short for the slots) */
+    SFFS1_NOT_EMPTY = 9,         /* the directory to be removed holds something */
+    SFFS1_OUT_OF_BOUNDS = 10,    /* the slots, the room or the number of the point */
+    SFFS1_IS_ROOT = 11,          /* the root is to be removed */
+    SFFS1_PAST_ROOM = 12,        /* the end of a write, or the length, is past the room */
+    SFFS1_PAST_END = 13,         /* the point's 16 bytes do not all lie within the file size */
+    SFFS1_TOO_FEW_LINES = 14,    /* fewer lines are lent than there are objects */
+
+    /* The image is not well formed: 20 + the lowest broken rule. In brackets the block that the place names. */
+    SFFS1_BROKEN_BLOCKS = 21,    /* the length is wrong (0), or blocks do not fill the image end to end, each of a known
+                                    kind, within its limits and with zeros after its data (the block) */
+    SFFS1_BROKEN_ROOT = 22,      /* the root ref names no directory that is its own parent (0) */
+    SFFS1_BROKEN_SLOTS = 23,     /* a slot is neither empty nor names a name and a file or directory (the directory) */
+    SFFS1_BROKEN_LINKS = 24,     /* not named by exactly one slot, or the root by one (what is named), or a parent that
+                                    is not the directory whose slot names it (the directory with this parent) */
+    SFFS1_BROKEN_DEPTH = 25,     /* is over 16 steps from the root, or at 16 and holds something (the directory) */
+    SFFS1_BROKEN_NAMES = 26,     /* a name is not valid (the name), or equal names in a directory (the directory) */
+    SFFS1_BROKEN_FILES = 27,     /* the size is past the room, or chunk size or reserved bytes are set (the file) */
+    SFFS1_BROKEN_FREE_CHAIN = 28 /* the chain does not name each free block once, rising; or two are neighbours (0) */
+};
+
+/* Whether the image is well formed: SFFS1_DONE, or 21 to 28 and the place. */
+uint8_t sffs1_check(const uint8_t *image, size_t image_len, uint64_t *place);
 
 /* What the path names: its ref, and whether it is a directory (0 or 1). A file has its size and room in first and
    second, a directory its taken slots and its slots in all. */
 uint8_t sffs1_find(const uint8_t *image, size_t image_len, const uint8_t *path, size_t path_len,
-                   uint64_t *ref, uint8_t *directory, uint64_t *first, uint64_t *second);
+                   uint64_t *ref, uint8_t *directory, uint64_t *first, uint64_t *second, uint64_t *place);
 
 /* The bytes of a file from the position on, to the front of the buffer, as many as the file and the buffer have.
    Tells their count; the rest of the buffer is unchanged. */
 uint8_t sffs1_read(const uint8_t *image, size_t image_len, const uint8_t *path, size_t path_len,
-                   uint64_t position, uint8_t *buffer, size_t buffer_len, uint64_t *count);
+                   uint64_t position, uint8_t *buffer, size_t buffer_len, uint64_t *count, uint64_t *place);
 
 /* Point `number`, from 1 to 4096, of a file: 16 bytes, never a part of a point. Zeros on a refusal. */
 uint8_t sffs1_read_point(const uint8_t *image, size_t image_len, const uint8_t *path, size_t path_len,
-                         uint64_t number, uint8_t point[16]);
+                         uint64_t number, uint8_t point[16], uint64_t *place);
 
-/* A new image, whatever its bytes were: a root directory with so many slots (1 to 1,024) at ref 2, the rest free. */
+/* A new image, whatever its bytes were: a root directory with so many slots (1 to 1,024) at ref 2, the rest free.
+   Tells no place. */
 uint8_t sffs1_format(uint8_t *image, size_t image_len, uint64_t slots);
 
-/* A new directory with so many empty slots (1 to 1,024), in the lowest empty slot of the directory above it. Tells its ref. */
+/* A new directory with so many empty slots (1 to 1,024), in the lowest empty slot of the directory above it. Tells
+   its ref. */
 uint8_t sffs1_make_directory(uint8_t *image, size_t image_len, const uint8_t *path, size_t path_len,
-                             uint64_t slots, uint64_t *ref);
+                             uint64_t slots, uint64_t *ref, uint64_t *place);
 
 /* A new file of size 0 with so much room (0 to 65,536 bytes), likewise. */
 uint8_t sffs1_make_file(uint8_t *image, size_t image_len, const uint8_t *path, size_t path_len,
-                        uint64_t room, uint64_t *ref);
+                        uint64_t room, uint64_t *ref, uint64_t *place);
 
-/* Bytes of a file from the position on; a gap after the old end becomes zeros. The position is any number: 12 where
-   the end would lie past the room. */
+/* Bytes of a file from the position on; a gap after the old end becomes zeros. The position is any number:
+   SFFS1_PAST_ROOM where the end would lie past the room. */
 uint8_t sffs1_write(uint8_t *image, size_t image_len, const uint8_t *path, size_t path_len,
-                    uint64_t position, const uint8_t *bytes, size_t bytes_len);
+                    uint64_t position, const uint8_t *bytes, size_t bytes_len, uint64_t *place);
 
 /* The file cut off at this length, or lengthened by zeros. */
-uint8_t sffs1_set_length(uint8_t *image, size_t image_len, const uint8_t *path, size_t path_len, uint64_t length);
+uint8_t sffs1_set_length(uint8_t *image, size_t image_len, const uint8_t *path, size_t path_len,
+                         uint64_t length, uint64_t *place);
 
 /* The file, or the directory that holds nothing, is gone, and its room is free again. */
-uint8_t sffs1_remove(uint8_t *image, size_t image_len, const uint8_t *path, size_t path_len);
+uint8_t sffs1_remove(uint8_t *image, size_t image_len, const uint8_t *path, size_t path_len, uint64_t *place);
 
-/* A line for every object: the root first; a directory lists what it holds before the next slot. Seven numbers a line: ref, the parent's
-   ref (the root's is its own), the name's ref (the root's is 0), depth, directory (0 or 1), and size and room, or taken slots and slots
-   in all. As many lines are lent as fit in numbers_len / 7; fewer than there are objects are refused with 14, and count is then the
-   number needed; it is 0 on other refusals. Numbers beyond the lines are unchanged. */
-uint8_t sffs1_list(const uint8_t *image, size_t image_len, uint64_t *numbers, size_t numbers_len, uint64_t *count);
+/* A line for every object: the root first; a directory lists what it holds before the next slot. Seven numbers a line:
+   ref, the parent's ref (the root's is its own), the name's ref (the root's is 0), depth, directory (0 or 1), and size
+   and room, or taken slots and slots in all. As many lines are lent as fit in numbers_len / 7; fewer than there are
+   objects are refused with SFFS1_TOO_FEW_LINES, and count is then the number needed; it is 0 on other refusals. Numbers
+   beyond the lines are unchanged. */
+uint8_t sffs1_list(const uint8_t *image, size_t image_len, uint64_t *numbers, size_t numbers_len,
+                   uint64_t *count, uint64_t *place);
 
 #ifdef __cplusplus
 }

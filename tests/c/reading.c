@@ -50,13 +50,13 @@ static void build(void) {
 static uint8_t find(const char *path, uint64_t *ref, uint8_t *directory, uint64_t *first, uint64_t *second) {
     *ref = *first = *second = 99;
     *directory = 99;
-    return sffs1_find(card, LENGTH, (const uint8_t *)path, strlen(path), ref, directory, first, second);
+    return sffs1_find(card, LENGTH, (const uint8_t *)path, strlen(path), ref, directory, first, second, &place);
 }
 
 static void expect_find(const char *path, uint8_t refusal, uint64_t ref, uint8_t directory, uint64_t first, uint64_t second) {
     uint64_t r, a, b;
     uint8_t d;
-    expect(path, find(path, &r, &d, &a, &b), refusal);
+    expect_answer(path, find(path, &r, &d, &a, &b), refusal);
     expect(path, r, ref);
     expect(path, d, directory);
     expect(path, a, first);
@@ -68,7 +68,8 @@ static void expect_read(const char *path, uint64_t position, uint8_t refusal, ui
     uint8_t buffer[8];
     uint64_t n = 99;
     memset(buffer, 0xaa, 8);
-    expect(path, sffs1_read(card, LENGTH, (const uint8_t *)path, strlen(path), position, buffer, 8, &n), refusal);
+    expect_answer(path, sffs1_read(card, LENGTH, (const uint8_t *)path, strlen(path), position, buffer, 8, &n, &place),
+                  refusal);
     expect(path, n, count);
     for (uint64_t i = 0; i < 8; i++) expect(path, buffer[i], i < count ? first + i : 0xaa);
 }
@@ -77,36 +78,61 @@ static void expect_read(const char *path, uint64_t position, uint8_t refusal, ui
 static void expect_point(const char *path, uint64_t n, uint8_t refusal, uint8_t first) {
     uint8_t point[16];
     memset(point, 0xaa, 16);
-    expect(path, sffs1_read_point(card, LENGTH, (const uint8_t *)path, strlen(path), n, point), refusal);
+    expect_answer(path, sffs1_read_point(card, LENGTH, (const uint8_t *)path, strlen(path), n, point, &place), refusal);
     for (int i = 0; i < 16; i++) expect(path, point[i], refusal ? 0 : first + i);
+}
+
+/* Every call is refused with this number and place, whatever else is wrong with it. */
+static void expect_damaged(uint8_t refusal, uint64_t at) {
+    wanted_place = at;
+    expect_answer("check of a damaged card", sffs1_check(card, LENGTH, &place), refusal);
+    expect_find("/heel", refusal, 0, 0, 0, 0);
+    expect_find("/a/", refusal, 0, 0, 0, 0);
+    expect_read("//", 0, refusal, 0, 0);
+    expect_point("/heel", 0, refusal, 0);
+    wanted_place = 0;
+}
+
+/* Damage upon damage, each breaking a lower rule. */
+static void expect_damages(void) {
+    data(15, 0, 1); /* the chain's last ref is not 0 */
+    expect_damaged(SFFS1_BROKEN_FREE_CHAIN, 0);
+    data(5, 0, 49); /* /heel is longer than its room */
+    expect_damaged(SFFS1_BROKEN_FILES, 5);
+    card[16 * 14 + 8] = '/'; /* a name with a slash */
+    expect_damaged(SFFS1_BROKEN_NAMES, 14);
+    data(11, 0, 11); /* /a is its own parent */
+    expect_damaged(SFFS1_BROKEN_LINKS, 11);
+    data(11, 8, 14); /* half a slot of /a */
+    expect_damaged(SFFS1_BROKEN_SLOTS, 11);
+    data(0, 0, 0); /* no root */
+    expect_damaged(SFFS1_BROKEN_ROOT, 0);
+    block(10, "SFxx", 4); /* a block of no kind */
+    expect_damaged(SFFS1_BROKEN_BLOCKS, 10);
 }
 
 int main(void) {
     build();
-    expect("check", sffs1_check(card, LENGTH), 0);
-    expect("check of 0 bytes", sffs1_check(card, 0), 1);
-    expect_find("/", 0, 2, 1, 2, 2);
-    expect_find("/heel", 0, 5, 0, 40, 48);
-    expect_find("/a", 0, 11, 1, 0, 2);
-    expect_find("/b", 3, 0, 0, 0, 0);
-    expect_find("/heel/a", 4, 0, 0, 0, 0);
-    expect_find("/a/", 2, 0, 0, 0, 0);
-    expect_read("/heel", 0, 0, 8, 1);
-    expect_read("/heel", 37, 0, 3, 38);
-    expect_read("/heel", 40, 0, 0, 0);
-    expect_read("/heel", UINT64_MAX, 0, 0, 0);
-    expect_read("/a", 0, 5, 0, 0);
-    expect_point("/heel", 1, 0, 1);
-    expect_point("/heel", 2, 0, 17);
-    expect_point("/heel", 3, 13, 0);
-    expect_point("/heel", 0, 10, 0);
-    expect_point("/heel", 4097, 10, 0);
-    expect_point("/", 1, 5, 0);
-    card[16 * 15 + 8] = 1; /* the chain's last ref is not 0 */
-    expect("check of a damaged card", sffs1_check(card, LENGTH), 1);
-    expect_find("/heel", 1, 0, 0, 0, 0);
-    expect_read("//", 0, 1, 0, 0);
-    expect_point("/heel", 0, 1, 0);
+    expect_answer("check", sffs1_check(card, LENGTH, &place), SFFS1_DONE);
+    expect_answer("check of 0 bytes", sffs1_check(card, 0, &place), SFFS1_BROKEN_BLOCKS);
+    expect_find("/", SFFS1_DONE, 2, 1, 2, 2);
+    expect_find("/heel", SFFS1_DONE, 5, 0, 40, 48);
+    expect_find("/a", SFFS1_DONE, 11, 1, 0, 2);
+    expect_find("/b", SFFS1_NOT_FOUND, 0, 0, 0, 0);
+    expect_find("/heel/a", SFFS1_NOT_A_DIRECTORY, 0, 0, 0, 0);
+    expect_find("/a/", SFFS1_BAD_PATH, 0, 0, 0, 0);
+    expect_read("/heel", 0, SFFS1_DONE, 8, 1);
+    expect_read("/heel", 37, SFFS1_DONE, 3, 38);
+    expect_read("/heel", 40, SFFS1_DONE, 0, 0);
+    expect_read("/heel", UINT64_MAX, SFFS1_DONE, 0, 0);
+    expect_read("/a", 0, SFFS1_IS_A_DIRECTORY, 0, 0);
+    expect_point("/heel", 1, SFFS1_DONE, 1);
+    expect_point("/heel", 2, SFFS1_DONE, 17);
+    expect_point("/heel", 3, SFFS1_PAST_END, 0);
+    expect_point("/heel", 0, SFFS1_OUT_OF_BOUNDS, 0);
+    expect_point("/heel", 4097, SFFS1_OUT_OF_BOUNDS, 0);
+    expect_point("/", 1, SFFS1_IS_A_DIRECTORY, 0);
+    expect_damages();
     if (failures == 0) puts("ok");
     return failures != 0;
 }

@@ -12,6 +12,7 @@ extern "C" {
         path_len: usize,
         slots: u64,
         at: *mut u64,
+        place: *mut u64,
     ) -> u8;
     fn sffs1_make_file(
         image: *mut u8,
@@ -20,8 +21,9 @@ extern "C" {
         path_len: usize,
         room: u64,
         at: *mut u64,
+        place: *mut u64,
     ) -> u8;
-    fn sffs1_check(image: *const u8, len: usize) -> u8;
+    fn sffs1_check(image: *const u8, len: usize, place: *mut u64) -> u8;
     fn sffs1_read_point(
         image: *const u8,
         len: usize,
@@ -29,24 +31,32 @@ extern "C" {
         path_len: usize,
         number: u64,
         point: *mut u8,
+        place: *mut u64,
     ) -> u8;
-    fn sffs1_list(image: *const u8, len: usize, numbers: *mut u64, numbers_len: usize, count: *mut u64)
-        -> u8;
+    fn sffs1_list(
+        image: *const u8,
+        len: usize,
+        numbers: *mut u64,
+        numbers_len: usize,
+        count: *mut u64,
+        place: *mut u64,
+    ) -> u8;
 }
 
 /// A directory with so many slots, at the path.
 fn directory(card: &mut [u8], path: &str, slots: u64) {
-    let mut at = 0;
-    let n = unsafe {
-        sffs1_make_directory(card.as_mut_ptr(), card.len(), path.as_ptr(), path.len(), slots, &mut at)
-    };
+    let (mut at, mut place) = (0, 0);
+    let (image, len) = (card.as_mut_ptr(), card.len());
+    let n =
+        unsafe { sffs1_make_directory(image, len, path.as_ptr(), path.len(), slots, &mut at, &mut place) };
     assert_eq!(n, 0, "{path}");
 }
 
 /// A file of 48 bytes' room, at the path.
 fn file(card: &mut [u8], path: &str) {
-    let mut at = 0;
-    let n = unsafe { sffs1_make_file(card.as_mut_ptr(), card.len(), path.as_ptr(), path.len(), 48, &mut at) };
+    let (mut at, mut place) = (0, 0);
+    let (image, len) = (card.as_mut_ptr(), card.len());
+    let n = unsafe { sffs1_make_file(image, len, path.as_ptr(), path.len(), 48, &mut at, &mut place) };
     assert_eq!(n, 0, "{path}");
 }
 
@@ -77,12 +87,14 @@ fn timed(mut f: impl FnMut()) -> f64 {
 
 fn measure(files: u64) {
     let card = card(files);
-    let check = timed(|| assert_eq!(unsafe { sffs1_check(card.as_ptr(), card.len()) }, 0));
+    let (image, len) = (card.as_ptr(), card.len());
+    let mut place = 0;
+    let check = timed(|| assert_eq!(unsafe { sffs1_check(image, len, &mut place) }, 0));
     let path = "/0/0";
     let mut point = [0; 16];
     let read = timed(|| {
         let n = unsafe {
-            sffs1_read_point(card.as_ptr(), card.len(), path.as_ptr(), path.len(), 1, point.as_mut_ptr())
+            sffs1_read_point(image, len, path.as_ptr(), path.len(), 1, point.as_mut_ptr(), &mut place)
         };
         assert_eq!(n, 13);
     });
@@ -90,7 +102,7 @@ fn measure(files: u64) {
     let mut count = 0;
     let list = timed(|| {
         let n =
-            unsafe { sffs1_list(card.as_ptr(), card.len(), numbers.as_mut_ptr(), numbers.len(), &mut count) };
+            unsafe { sffs1_list(image, len, numbers.as_mut_ptr(), numbers.len(), &mut count, &mut place) };
         assert_eq!(n, 0);
     });
     println!("objects {count}: check {check:.2} ms, read point {read:.2} ms, list {list:.2} ms, of which the lines {:.2} ms", list - check);

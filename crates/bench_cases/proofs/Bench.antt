@@ -12,6 +12,7 @@ use Rattle.path.specs.Path.{parts, components, allValid, validPath, allButLast}
 use Rattle.tree.specs.Fields.{slotsFrom, slots, takenCount, content}
 use Rattle.tree.specs.Rules.{rootStands, slotsStand, namings, allNamings, namedOnce, climb, depthAllowed, nameIn, distinct, namesStand, fileStands}
 use Rattle.tree.specs.Verdict.{breaker, verdictOn, verdict, wellFormed}
+use Rattle.calls.specs.Refusal.{check}
 use Rattle.calls.specs.Walk.{firstSlot, step, walk, opening, start, startAbove, lastName}
 use Rattle.calls.specs.Reading.{find, read, readPoint}
 use Rattle.changes.specs.Changing.{formatted, format, fillSlot, makeIn, make, removeIn, remove, write, setLength}
@@ -26,7 +27,7 @@ unfolding be32 be64 u32At u64At splice zeros same
     place placeTwo placePair wiped coalesced released updated
     name.allowed followers encoded validName parts components allValid validPath allButLast
     slotsFrom slots takenCount content rootStands slotsStand namings allNamings namedOnce climb depthAllowed nameIn distinct namesStand fileStands
-    breaker verdictOn verdict wellFormed
+    breaker verdictOn verdict wellFormed check
     firstSlot step walk opening start startAbove lastName find read readPoint
     formatted format fillSlot makeIn make removeIn remove write setLength
     run says stands allStand follow holds allHold table

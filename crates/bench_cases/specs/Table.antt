@@ -6,6 +6,7 @@ use lib.Dec.{eqb}
 use lib.ListN.{replicate}
 use Rattle.storage.specs.Bytes.{u64At, same, zeroed}
 use Rattle.alloc.specs.Block.{SFde, SFna, SFre, SFfr, unitsFor, magicAt, sizeAt}
+use Rattle.calls.specs.Refusal.{numberOf}
 use Rattle.calls.specs.Reading as reading
 use Rattle.changes.specs.Changing as changing
 
@@ -31,19 +32,19 @@ pub record Answer : Type 0 where
   pub image : List ℕ
 
 abbrev pub changed : changing.Outcome → Answer
-changed o = record { number = o .refusal; ref = 0; bytes = []; image = o .image }
+changed o = record { number = numberOf (o .refusal); ref = 0; bytes = []; image = o .image }
 
 abbrev pub made : changing.Made → Answer
-made m = record { number = m .refusal; ref = m .at; bytes = []; image = m .image }
+made m = record { number = numberOf (m .refusal); ref = m .at; bytes = []; image = m .image }
 
 abbrev pub found : List ℕ → reading.Found → Answer
-found s f = record { number = f .refusal; ref = f .at; bytes = []; image = s }
+found s f = record { number = numberOf (f .refusal); ref = f .at; bytes = []; image = s }
 
 abbrev pub copied : List ℕ → reading.Read → Answer
-copied s r = record { number = r .refusal; ref = 0; bytes = r .buffer; image = s }
+copied s r = record { number = numberOf (r .refusal); ref = 0; bytes = r .buffer; image = s }
 
 abbrev pub point : List ℕ → reading.Point → Answer
-point s p = record { number = p .refusal; ref = 0; bytes = p .bytes; image = s }
+point s p = record { number = numberOf (p .refusal); ref = 0; bytes = p .bytes; image = s }
 
 -- a call on an image, by the calls' own definitions; a read's buffer is all 7 before
 unfoldable pub run : List ℕ → Call → Answer

@@ -1,9 +1,12 @@
 // A call, and the line with what it answers; a part of an image, and its line.
 
 use calls::reading;
+use calls::refusal::Refusal;
 use libc::STDOUT_FILENO;
 use show::say;
 use show::say_number;
+use show::say_path;
+use show::say_refusal;
 use storage::Offset;
 use storage::Ref;
 ghost use Prim.Native.Nat.{_+_, _≤_, _<_};
@@ -11,23 +14,15 @@ ghost use lib.ListN.{length};
 ghost use mathlib.Core.Path.{_≡_};
 ghost use Rattle.changes.specs.Changing as changing;
 
-// The path in quotes, since it may be empty.
-fn say_path(text: &[u8], path: &[u8]) {
-    say(text);
-    say(b"\"");
-    say(path);
-    say(b"\"");
-}
-
-// The end of a line: the number that the call answers.
-fn end(refusal: u8) {
-    say_number(b": ", refusal as u64);
+// The end of a line: what the call answers.
+fn end(r: Refusal) {
+    say_refusal(r);
     say(b"\n");
 }
 
 // The same, and a ref.
-fn end_at(refusal: u8, at: Ref) {
-    say_number(b": ", refusal as u64);
+fn end_at(r: Refusal, at: Ref) {
+    say_refusal(r);
     say_number(b", ref ", at.0);
     say(b"\n");
 }
@@ -59,19 +54,21 @@ pub fn format(image: &mut [u8], slots: u64)
 {
     say_number(b"format ", image.len() as u64);
     say_number(b" bytes, slots ", slots);
-    end(changes::format::format(image, slots).refusal);
+    end(changes::format::format(image, slots));
 }
 
 pub fn check(text: &[u8], image: &[u8; 256]) {
     say(b"check ");
     say(text);
-    end(reading::check(image).refusal);
+    end(calls::check::check(image));
 }
 
 pub fn find(image: &[u8], path: &[u8]) {
     let answer = reading::find(image, path);
     say_path(b"find ", path);
-    end_at(answer.refusal, answer.at);
+    let refusal = answer.refusal;
+    let at = answer.at;
+    end_at(refusal, at);
 }
 
 pub fn make_directory(image: &mut [u8], path: &[u8], slots: u64)
@@ -80,7 +77,9 @@ pub fn make_directory(image: &mut [u8], path: &[u8], slots: u64)
     let answer = changes::make::directory(image, path, slots);
     say_path(b"make directory ", path);
     say_number(b", slots ", slots);
-    end_at(answer.refusal, answer.at);
+    let refusal = answer.refusal;
+    let at = answer.at;
+    end_at(refusal, at);
 }
 
 pub fn make_file(image: &mut [u8], path: &[u8], room: u64)
@@ -89,14 +88,16 @@ pub fn make_file(image: &mut [u8], path: &[u8], room: u64)
     let answer = changes::make::file(image, path, room);
     say_path(b"make file ", path);
     say_number(b", room ", room);
-    end_at(answer.refusal, answer.at);
+    let refusal = answer.refusal;
+    let at = answer.at;
+    end_at(refusal, at);
 }
 
 pub fn remove(image: &mut [u8], path: &[u8])
     ensures { λ _. ⌜ now (image .exit) ≡ (changing.remove (now (image .entry)) (now (path .entry))) .image ⌝ }
 {
     say_path(b"remove ", path);
-    end(changes::remove::remove(image, path).refusal);
+    end(changes::remove::remove(image, path));
 }
 
 pub fn write(image: &mut [u8], path: &[u8], position: u64, bytes: &[u8])
@@ -105,7 +106,7 @@ pub fn write(image: &mut [u8], path: &[u8], position: u64, bytes: &[u8])
     say_path(b"write ", path);
     say_number(b", bytes ", bytes.len() as u64);
     say_number(b" at ", position);
-    end(changes::bytes::write(image, path, position, bytes).refusal);
+    end(changes::bytes::write(image, path, position, bytes));
 }
 
 pub fn set_length(image: &mut [u8], path: &[u8], size: u64)
@@ -113,7 +114,7 @@ pub fn set_length(image: &mut [u8], path: &[u8], size: u64)
 {
     say_path(b"set length ", path);
     say_number(b", ", size);
-    end(changes::bytes::set_length(image, path, size).refusal);
+    end(changes::bytes::set_length(image, path, size));
 }
 
 // A read of up to 32 bytes from the front on, into a buffer of bytes aa.
@@ -121,7 +122,8 @@ pub fn read_32(image: &[u8], path: &[u8]) {
     let mut buffer = [0xaau8; 32];
     let answer = reading::read(image, path, 0, &mut buffer);
     say_path(b"read ", path);
-    say_number(b": ", answer.refusal as u64);
+    let refusal = answer.refusal;
+    say_refusal(refusal);
     say_number(b", count ", answer.count);
     say(b",");
     say_word(&buffer, 0);
@@ -135,7 +137,8 @@ pub fn point(image: &[u8], path: &[u8], number: u64) {
     let answer = reading::read_point(image, path, number);
     say_path(b"read point ", path);
     say_number(b", ", number);
-    say_number(b": ", answer.refusal as u64);
+    let refusal = answer.refusal;
+    say_refusal(refusal);
     say(b",");
     let bytes = answer.bytes;
     say_point(&bytes);

@@ -19,6 +19,8 @@ use Rattle.tree.specs.Fields.{isDir, isFile, total, slots, takenCount, fileSize
 use Rattle.tree.proofs.Formed.{formed-file}
 use Rattle.tree.proofs.Tests.{file-data-size}
 use Rattle.calls.specs.Reading.{blockIn, kindOf, Point, noPoint, pointOf, file, directory}
+use Rattle.calls.specs.declared.refusal.Reason.the-variants.{PastEnd}
+use Rattle.calls.specs.declared.refusal.Refusal.the-variants.{Accepted, For}
 use Rattle.calls.specs.Answers.{DirectoryIn, FileIn, Copies, Points}
 use Rattle.calls.proofs.Stands.{directory-stands, file-stands}
 
@@ -120,14 +122,14 @@ module _ {s : List ℕ} (h : AllBytes s) {r : ℕ} (f : FileIn s r) where
           }
 
     -- a point
-    pub point-none : (n : ℕ) → z < 16 * n → noPoint 13 ≡ pointOf n (blockIn s r)
+    pub point-none : (n : ℕ) → z < 16 * n → noPoint (For PastEnd) ≡ pointOf n (blockIn s r)
     point-none n l = sym (rw (lt-leb (16 * n) (fileSize (blockIn s r)) (omega (arith, size-read))))
 
     module _ (n : ℕ) (p : 0 < n) (l : 16 * n ≤ z) where
       pub point-inside : 16 * n + 16 ≤ sizeAt s r
       point-inside = omega (arith, size-read, size-low, file-numbers)
 
-      pub point-some : (after : List ℕ) → after ≡ splice (zeroed 16) 0 (take 16 (drop (16 * n) (blockOf s r .body))) → Points (pointOf n (blockIn s r)) 0 after
+      pub point-some : (after : List ℕ) → after ≡ splice (zeroed 16) 0 (take 16 (drop (16 * n) (blockOf s r .body))) → Points (pointOf n (blockIn s r)) Accepted after
       unfolding splice
       point-some after g =
           let i : ℕ = 16 * (n - 1) in
@@ -137,7 +139,7 @@ module _ {s : List ℕ} (h : AllBytes s) {r : ℕ} (f : FileIn s r) where
           let b : length (blockIn s r .body) ≡ sizeAt s r = ap (λ (x : Block). length (x .body)) (sym block-is) ∙ block-size s r (file-standing .fits) in
           let y : List ℕ = take 16 (drop (16 * n) (blockIn s r .body)) in
           let ly : length y ≡ 16 = length-part (blockIn s r .body) (16 * n) 16 (omega (arith, point-inside)) in
-          let t : pointOf n (blockIn s r) ≡ record { refusal = 0; bytes = take 16 (drop i (content (blockIn s r))) } =
+          let t : pointOf n (blockIn s r) ≡ record { refusal = Accepted; bytes = take 16 (drop i (content (blockIn s r))) } =
           rw (le-leb (16 * n) (fileSize (blockIn s r)) (omega (arith, size-read))) in
           record {
             refusal-is = ap (λ (x : Point). x .refusal) (sym t);

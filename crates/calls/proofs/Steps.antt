@@ -6,10 +6,9 @@ use mathlib.Core.Option.{Option, none, some}
 use mathlib.Core.Path.{_∙_, _≡_, ap, refl, subst, sym}
 use native.Mathlib.Numerals.{add-one}
 use native.Mathlib.Omega.{arith}
-use lib.Dec.{eqb}
 use lib.ListN.{drop, drop-of-length-le, getD, length}
 use lib.Seq.{drop-cons}
-use borrow.Author.Tests.{eq-eqb, ne-eqb}
+use borrow.Author.Tests.{eq-eqb, eqb-true, ne-eqb}
 use Rattle.storage.specs.Bytes.{same}
 use Rattle.storage.proofs.Booleans.{and-true}
 use Rattle.storage.proofs.Numbers.{AllBytes}
@@ -20,8 +19,13 @@ use Rattle.alloc.specs.Sound.{Standing}
 use Rattle.alloc.specs.Volume.{Objects, blockAt, objects, volumeOf}
 use Rattle.tree.specs.Fields.{Slot, isDir, slotAt, taken, total}
 use Rattle.tree.specs.Verdict.{verdict, wellFormed}
-use Rattle.calls.specs.Answers.{DirectoryIn, ObjectAt, named, numberOf, refusalOf}
+use Rattle.calls.specs.declared.refusal.Reason.{Reason}
+use Rattle.calls.specs.declared.refusal.Reason.the-variants.{BadPath, NotDirectory, OutOfBounds}
+use Rattle.calls.specs.declared.refusal.Refusal.{Refusal}
+use Rattle.calls.specs.declared.refusal.Refusal.the-variants.{Accepted, For}
+use Rattle.calls.specs.Answers.{DirectoryIn, ObjectAt, named, startRefusal, walkRefusal}
 use Rattle.calls.specs.Reading.{blockIn}
+use Rattle.calls.specs.Refusal.{accepted, broken, check, numberOf}
 use Rattle.calls.specs.Walk.{Start, Walk, aboveLast, asDirectory, at, blocked, child, lastName, missing, opening, orRefused, reached, refused, slotNamed, start, startAbove, step, walk, walkFrom, walked}
 use Rattle.calls.proofs.Lowest.{found-slot}
 use Rattle.calls.proofs.Stands.{root-object, slot-name-stands, slot-object, slot-read}
@@ -106,7 +110,7 @@ module _ {s : List ℕ} {ws : List (List ℕ)} {r i : ℕ} (k : Walking s ws r i
   walking-on h l {w} e q f = record { object = step-object h r (k .object .formed) w q f; so-far = stepped l e (at q) f }
 
   -- a step that has no child
-  pub walking-out : i < length ws → {w : List ℕ} → w ≡ getD ws i [] → (x : Walk) → x ≡ step (objects (volumeOf s)) r w → (n : ℕ) → n ≡ refusalOf x
+  pub walking-out : i < length ws → {w : List ℕ} → w ≡ getD ws i [] → (x : Walk) → x ≡ step (objects (volumeOf s)) r w → (n : Refusal) → n ≡ walkRefusal x
       → ((q : ℕ) → x ≡ at q → ⊥) → refused n ≡ walked (walk (objects (volumeOf s)) (volumeOf s .root) ws)
   walking-out l e missing f n g m = ap refused g ∙ sym (ap walked (stepped l e missing f))
   walking-out l e blocked f n g m = ap refused g ∙ sym (ap walked (stepped l e blocked f))
@@ -114,60 +118,53 @@ module _ {s : List ℕ} {ws : List (List ℕ)} {r i : ℕ} (k : Walking s ws r i
 
 -- ---- how a call begins
 
-module _ (s : List ℕ) where
-  formed-is : (n : ℕ) → n ≡ verdict s .rule → (t : Bool) → eqb n 0 ≡ t → wellFormed s ≡ t
-  unfolding wellFormed
-  formed-is n e t f = ap (λ (x : ℕ). eqb x 0) (sym e) ∙ f
-
-  pub formed-so : (n : ℕ) → n ≡ verdict s .rule → n ≡ 0 → wellFormed s ≡ true
-  formed-so n e z = formed-is n e true (eq-eqb n 0 z)
-
-  pub formed-not : (n : ℕ) → n ≡ verdict s .rule → (n ≡ 0 → ⊥) → wellFormed s ≡ false
-  formed-not n e z = formed-is n e false (ne-eqb n 0 z)
-
 -- what is looked for first
 module _ (s path : List ℕ) (allowed : Bool) where
-  pub opening-broken : wellFormed s ≡ false → 1 ≡ opening s path allowed
+  pub opening-broken : wellFormed s ≡ false → check s ≡ opening s path allowed
   unfolding opening
   opening-broken e = sym (rw (e, opening))
 
   module _ (e : wellFormed s ≡ true) where
-    pub opening-path : validPath path ≡ false → 2 ≡ opening s path allowed
+    pub opening-path : validPath path ≡ false → For BadPath ≡ opening s path allowed
     unfolding opening
     opening-path f = sym (rw (e, f, opening))
 
     module _ (f : validPath path ≡ true) where
-      pub opening-bounds : allowed ≡ false → 10 ≡ opening s path allowed
+      pub opening-bounds : allowed ≡ false → For OutOfBounds ≡ opening s path allowed
       unfolding opening
       opening-bounds g = sym (rw (e, f, g, opening))
 
-      pub opening-none : allowed ≡ true → 0 ≡ opening s path allowed
+      pub opening-none : allowed ≡ true → Accepted ≡ opening s path allowed
       unfolding opening
       opening-none g = sym (rw (e, f, g, opening))
 
-  pub opened : opening s path allowed ≡ 0 → (wellFormed s ≡ true) × (validPath path ≡ true) × (allowed ≡ true)
-  unfolding opening
+  pub opened : numberOf (opening s path allowed) ≡ 0 → (wellFormed s ≡ true) × (validPath path ≡ true) × (allowed ≡ true)
+  unfolding opening check
   opened e = go (wellFormed s) (validPath path) allowed refl refl refl e
     where
-      go : (a b c : Bool) → wellFormed s ≡ a → validPath path ≡ b → allowed ≡ c → _≡_ {A = ℕ} (cond a (cond b (cond c 0 10) 2) 1) 0
+      go : (a b c : Bool) → wellFormed s ≡ a → validPath path ≡ b → allowed ≡ c
+          → numberOf (cond a (cond b (cond c Accepted (For OutOfBounds)) (For BadPath)) (cond a Accepted (broken (verdict s)))) ≡ 0
           → (wellFormed s ≡ true) × (validPath path ≡ true) × (allowed ≡ true)
       go true true true x y z e = (x, y, z)
       go true true false x y z e = absurd (omega arith)
       go true false c x y z e = absurd (omega arith)
       go false b c x y z e = absurd (omega arith)
 
-pub or-refused : {n : ℕ} (m : ℕ) (x : Start) → n ≡ m → (n ≡ 0 → ⊥) → refused n ≡ orRefused m x
-or-refused zero x e z = absurd (z e)
-or-refused (suc m) x e z = ap refused e
+-- r is what was looked for first, and n its number
+module _ {r : Refusal} (m : Refusal) (x : Start) (e : r ≡ m) {n : ℕ} (f : n ≡ numberOf r) where
+  pub or-refused : (n ≡ 0 → ⊥) → refused r ≡ orRefused m x
+  or-refused z = ap refused e ∙ sym (ap (λ (t : Bool). cond t x (refused m)) (ne-eqb (numberOf m) 0 (λ q. z (f ∙ ap numberOf e ∙ q))))
 
-pub or-passed : {n : ℕ} (m : ℕ) (x : Start) → n ≡ m → n ≡ 0 → x ≡ orRefused m x
-or-passed zero x e z = refl
-or-passed (suc m) x e z = absurd (omega arith)
+  pub or-passed : n ≡ 0 → x ≡ orRefused m x
+  or-passed z = sym (ap (λ (t : Bool). cond t x (refused m)) (eq-eqb (numberOf m) 0 (ap numberOf (sym e) ∙ sym f ∙ z)))
 
 -- what reaches a ref was not refused first
-pub reached-opened : (m : ℕ) (x : Start) (r : ℕ) → reached r ≡ orRefused m x → (m ≡ 0) × (reached r ≡ x)
-reached-opened zero x r e = (refl, e)
-reached-opened (suc m) x r e = let z : _≡_ {A = ℕ} 0 1 = cc in absurd (omega arith)
+pub reached-opened : (m : Refusal) (x : Start) (r : ℕ) → reached r ≡ orRefused m x → (numberOf m ≡ 0) × (reached r ≡ x)
+reached-opened m x r e = go (accepted m) refl e
+  where
+    go : (t : Bool) → accepted m ≡ t → reached r ≡ cond t x (refused m) → (numberOf m ≡ 0) × (reached r ≡ x)
+    go true q e = (eqb-true (numberOf m) 0 q, e)
+    go false q e = let z : _≡_ {A = ℕ} 0 1 = cc in absurd (omega arith)
 
 -- a ref that a walk reaches is an object
 pub walked-object : {s : List ℕ} → AllBytes s → wellFormed s ≡ true → (ws : List (List ℕ)) (r : ℕ) → reached r ≡ walkFrom s ws → ObjectAt s r
@@ -193,20 +190,20 @@ start-object {s} h path allowed r f =
 
 -- ---- the directory above the last component
 
-module _ (s path : List ℕ) (allowed : Bool) (top : ℕ) {n : ℕ} (o : n ≡ opening s path allowed) where
-  pub above-first : (n ≡ 0 → ⊥) → refused n ≡ startAbove s path allowed top
+module _ (s path : List ℕ) (allowed : Bool) (top : Reason) {b : Refusal} (o : b ≡ opening s path allowed) {n : ℕ} (f : n ≡ numberOf b) where
+  pub above-first : (n ≡ 0 → ⊥) → refused b ≡ startAbove s path allowed top
   unfolding startAbove
-  above-first z = or-refused (opening s path allowed) (aboveLast s top (components path)) o z
+  above-first z = or-refused (opening s path allowed) (aboveLast s top (components path)) o f z
 
   module _ (z : n ≡ 0) where
     passed : {x : Start} → x ≡ aboveLast s top (components path) → x ≡ startAbove s path allowed top
     unfolding startAbove
-    passed e = e ∙ or-passed (opening s path allowed) (aboveLast s top (components path)) o z
+    passed e = e ∙ or-passed (opening s path allowed) (aboveLast s top (components path)) o f z
 
-    pub above-root : {m : ℕ} → m ≡ length (components path) → m ≡ 0 → refused top ≡ startAbove s path allowed top
+    pub above-root : {m : ℕ} → m ≡ length (components path) → m ≡ 0 → refused (For top) ≡ startAbove s path allowed top
     above-root e y = passed (go (components path) (sym e ∙ y))
       where
-        go : (ws : List (List ℕ)) → length ws ≡ 0 → refused top ≡ aboveLast s top ws
+        go : (ws : List (List ℕ)) → length ws ≡ 0 → refused (For top) ≡ aboveLast s top ws
         go [] e = refl
         go (w ∷ ws) e = absurd (omega arith)
 
@@ -215,22 +212,22 @@ module _ (s path : List ℕ) (allowed : Bool) (top : ℕ) {n : ℕ} (o : n ≡ o
       came : (x : Start) → x ≡ walkFrom s (components p) → asDirectory s x ≡ startAbove s path allowed top
       came x e =
           passed (go (components path) (λ u. y (c ∙ u))
-          (e ∙ ap (λ (u : List ℕ). walkFrom s (components u)) q ∙ ap (walkFrom s) (directory-components path (opened s path allowed (sym o ∙ z) .1))))
+          (e ∙ ap (λ (u : List ℕ). walkFrom s (components u)) q ∙ ap (walkFrom s) (directory-components path (opened s path allowed (ap numberOf (sym o) ∙ sym f ∙ z) .1))))
         where
           go : (ws : List (List ℕ)) → (length ws ≡ 0 → ⊥) → x ≡ walkFrom s (allButLast ws) → asDirectory s x ≡ aboveLast s top ws
           go [] u f = absurd (u refl)
           go (w ∷ ws) u f = ap (asDirectory s) f
 
-      pub above-refused : (x : Start) → x ≡ walkFrom s (components p) → ((r : ℕ) → x ≡ reached r → ⊥) → {k : ℕ} → k ≡ numberOf x → refused k ≡ startAbove s path allowed top
+      pub above-refused : (x : Start) → x ≡ walkFrom s (components p) → ((r : ℕ) → x ≡ reached r → ⊥) → {k : Refusal} → k ≡ startRefusal x → refused k ≡ startAbove s path allowed top
       above-refused (refused l) e r f = ap refused f ∙ came (refused l) e
       above-refused (reached d) e r f = absurd (r d refl)
 
       module _ (d : ℕ) (e : reached d ≡ walkFrom s (components p)) where
-        pub above-file : isDir (blockIn s d) ≡ false → refused 4 ≡ startAbove s path allowed top
-        above-file k = sym (ap (λ (t : Bool). cond t (reached d) (refused 4)) k) ∙ came (reached d) e
+        pub above-file : isDir (blockIn s d) ≡ false → refused (For NotDirectory) ≡ startAbove s path allowed top
+        above-file k = sym (ap (λ (t : Bool). cond t (reached d) (refused (For NotDirectory))) k) ∙ came (reached d) e
 
         pub above-directory : isDir (blockIn s d) ≡ true → reached d ≡ startAbove s path allowed top
-        above-directory k = sym (ap (λ (t : Bool). cond t (reached d) (refused 4)) k) ∙ came (reached d) e
+        above-directory k = sym (ap (λ (t : Bool). cond t (reached d) (refused (For NotDirectory))) k) ∙ came (reached d) e
 
 -- what is reached above the last component is a directory, and there is a last component
 pub record Above (s path : List ℕ) (d : ℕ) : Type 0 where
@@ -238,7 +235,7 @@ pub record Above (s path : List ℕ) (d : ℕ) : Type 0 where
   pub valid : validPath path ≡ true
   pub some-name : length (components path) ≡ 0 → ⊥
 
-pub reached-above : (s path : List ℕ) (allowed : Bool) (top d : ℕ) → reached d ≡ startAbove s path allowed top → (allowed ≡ true) × Above s path d
+pub reached-above : (s path : List ℕ) (allowed : Bool) (top : Reason) (d : ℕ) → reached d ≡ startAbove s path allowed top → (allowed ≡ true) × Above s path d
 unfolding startAbove
 reached-above s path allowed top d f =
     let x = reached-opened (opening s path allowed) _ d f in
@@ -249,7 +246,7 @@ reached-above s path allowed top d f =
     by-kind (refused n) g = let z : _≡_ {A = ℕ} 0 1 = cc in absurd (omega arith)
     by-kind (reached q) g = kind (isDir (blockIn s q)) refl g
       where
-        kind : (t : Bool) → isDir (blockIn s q) ≡ t → reached d ≡ cond t (reached q) (refused 4) → isDir (blockIn s d) ≡ true
+        kind : (t : Bool) → isDir (blockIn s q) ≡ t → reached d ≡ cond t (reached q) (refused (For NotDirectory)) → isDir (blockIn s d) ≡ true
         kind true k g = let m : q ≡ d = cc in subst (λ (r : ℕ). isDir (blockIn s r) ≡ true) m k
         kind false k g = let z : _≡_ {A = ℕ} 0 1 = cc in absurd (omega arith)
 

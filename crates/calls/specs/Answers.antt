@@ -8,6 +8,9 @@ use lib.ListN.{length, take, drop}
 use Rattle.storage.specs.Bytes.{same}
 use Rattle.tree.specs.Fields.{isDir, isFile, slotAt, taken, content}
 use Rattle.tree.specs.Verdict.{wellFormed}
+use Rattle.calls.specs.declared.refusal.Reason.the-variants.{NotFound, NotDirectory}
+use Rattle.calls.specs.declared.refusal.Refusal.{Refusal}
+use Rattle.calls.specs.declared.refusal.Refusal.the-variants.{Accepted, For}
 use Rattle.calls.specs.declared.slots.Index.{Index}
 use Rattle.calls.specs.declared.slots.Index.the-variants.{Nowhere, At}
 use Rattle.calls.specs.declared.walk.Step.{Step}
@@ -33,7 +36,7 @@ stepOf Blocked = blocked
 
 -- how a call begins
 abbrev pub startOf : declared-start.Start → Start
-startOf (Refused n) = refused n
+startOf (Refused r) = refused r
 startOf (Reached r) = reached (r .0)
 
 -- find's kind: a file with size and room, or a directory with taken and total slots
@@ -63,27 +66,28 @@ pub record FileIn (s : List ℕ) (r : ℕ) : Type 0 where
 abbrev pub named : List ℕ → ℕ → ℕ → List ℕ → Bool
 named s r i w = taken (slotAt (blockIn s r) i) && same (blockIn s (slotAt (blockIn s r) i .0) .body) w
 
--- the number of a walk that reaches nothing
-abbrev pub refusalOf : Walk → ℕ
-refusalOf missing = 3
-refusalOf blocked = 4
-refusalOf (at r) = 0
+-- the refusal of a walk that reaches nothing
+abbrev pub walkRefusal : Walk → Refusal
+walkRefusal missing = For NotFound
+walkRefusal blocked = For NotDirectory
+walkRefusal (at r) = Accepted
 
-abbrev pub numberOf : Start → ℕ
-numberOf (refused n) = n
-numberOf (reached r) = 0
+-- and of a call that is refused as it begins
+abbrev pub startRefusal : Start → Refusal
+startRefusal (refused r) = r
+startRefusal (reached r) = Accepted
 
--- a read's answer: its numbers, and the buffer then
-pub record Reads (a : Read) (refusal count : ℕ) (buffer : List ℕ) : Type 0 where
+-- a read's answer, and the buffer then
+pub record Reads (a : Read) (refusal : Refusal) (count : ℕ) (buffer : List ℕ) : Type 0 where
   pub refusal-is : refusal ≡ a .refusal
   pub count-is : count ≡ a .count
   pub buffer-is : buffer ≡ a .buffer
 
 -- the copying part of a read
 pub record Copies (s : List ℕ) (r position : ℕ) (before : List ℕ) (count : ℕ) (buffer : List ℕ) : Type 0 where
-  pub bytes : Reads (copied before (take (length before) (drop position (content (blockIn s r))))) 0 count buffer
+  pub bytes : Reads (copied before (take (length before) (drop position (content (blockIn s r))))) Accepted count buffer
 
 -- a point's answer
-pub record Points (p : Point) (refusal : ℕ) (bytes : List ℕ) : Type 0 where
+pub record Points (p : Point) (refusal : Refusal) (bytes : List ℕ) : Type 0 where
   pub refusal-is : refusal ≡ p .refusal
   pub bytes-is : bytes ≡ p .bytes

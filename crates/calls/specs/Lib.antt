@@ -1,3 +1,4 @@
+pub mod Refusal
 pub mod Walk
 pub mod Reading
 pub mod Answers

@@ -1,5 +1,5 @@
 -- The walk along a path, from the root, left to right.
-use Prim.Native.Nat.{ℕ, zero, suc, _-_}
+use Prim.Native.Nat.{ℕ, suc, _-_}
 use mathlib.Core.List.{List, [], _∷_}
 use mathlib.Core.Bool.{Bool, true, false, _&&_, cond, not}
 use mathlib.Core.Option.{Option, none, some}
@@ -10,6 +10,11 @@ use Rattle.alloc.specs.Volume.{Objects, volumeOf, objects, blockAt}
 use Rattle.path.specs.Path.{validPath, components, allButLast}
 use Rattle.tree.specs.Fields.{isDir, Slot, slotAt, slots, taken}
 use Rattle.tree.specs.Verdict.{wellFormed}
+use Rattle.calls.specs.declared.refusal.Reason.{Reason}
+use Rattle.calls.specs.declared.refusal.Reason.the-variants.{BadPath, NotFound, NotDirectory, OutOfBounds}
+use Rattle.calls.specs.declared.refusal.Refusal.{Refusal}
+use Rattle.calls.specs.declared.refusal.Refusal.the-variants.{Accepted, For}
+use Rattle.calls.specs.Refusal.{accepted, check}
 
 -- the lowest slot of a row that passes a test, by its number
 abbrev pub onward : Option ℕ → Option ℕ
@@ -48,30 +53,29 @@ unfoldable pub walk : Objects → ℕ → List (List ℕ) → Walk
 walk os r [] = at r
 walk os r (w ∷ ws) = elim (step os r w) [ missing ↦ missing | blocked ↦ blocked | at q ↦ walk os q ws ]
 
--- how every call on a path begins: refused with a number, or the ref that the path names
+-- how every call on a path begins: refused, or the ref that the path names
 pub data Start : Type 0 where
-  refused : ℕ → Start
+  refused : Refusal → Start
   reached : ℕ → Start
 
--- what is looked for first, 0 for none of it: 1, 2, and 10 for numbers that are not allowed
-unfoldable pub opening : List ℕ → List ℕ → Bool → ℕ
-opening s path allowed = cond (wellFormed s) (cond (validPath path) (cond allowed 0 10) 2) 1
+-- what is looked for first: the image's own refusal, then the path's, then that of numbers that are not allowed
+unfoldable pub opening : List ℕ → List ℕ → Bool → Refusal
+opening s path allowed = cond (wellFormed s) (cond (validPath path) (cond allowed Accepted (For OutOfBounds)) (For BadPath)) (check s)
 
 -- then what follows
-abbrev pub orRefused : ℕ → Start → Start
-orRefused zero x = x
-orRefused (suc n) x = refused (suc n)
+abbrev pub orRefused : Refusal → Start → Start
+orRefused r x = cond (accepted r) x (refused r)
 
 abbrev pub walked : Walk → Start
-walked missing = refused 3
-walked blocked = refused 4
+walked missing = refused (For NotFound)
+walked blocked = refused (For NotDirectory)
 walked (at r) = reached r
 
 -- from the root along components
 abbrev pub walkFrom : List ℕ → List (List ℕ) → Start
 walkFrom s ws = walked (walk (objects (volumeOf s)) (volumeOf s .root) ws)
 
--- a call on what the path names: the walk's 3 and 4
+-- a call on what the path names: then the walk's refusals
 unfoldable pub start : List ℕ → List ℕ → Bool → Start
 start s path allowed = orRefused (opening s path allowed) (walkFrom s (components path))
 
@@ -79,13 +83,13 @@ start s path allowed = orRefused (opening s path allowed) (walkFrom s (component
 -- that should hold it stands in the way too
 abbrev pub asDirectory : List ℕ → Start → Start
 asDirectory s (refused n) = refused n
-asDirectory s (reached d) = cond (isDir (blockAt (objects (volumeOf s)) d)) (reached d) (refused 4)
+asDirectory s (reached d) = cond (isDir (blockAt (objects (volumeOf s)) d)) (reached d) (refused (For NotDirectory))
 
-abbrev pub aboveLast : List ℕ → ℕ → List (List ℕ) → Start
-aboveLast s top [] = refused top
+abbrev pub aboveLast : List ℕ → Reason → List (List ℕ) → Start
+aboveLast s top [] = refused (For top)
 aboveLast s top (w ∷ ws) = asDirectory s (walkFrom s (allButLast (w ∷ ws)))
 
-unfoldable pub startAbove : List ℕ → List ℕ → Bool → ℕ → Start
+unfoldable pub startAbove : List ℕ → List ℕ → Bool → Reason → Start
 startAbove s path allowed top = orRefused (opening s path allowed) (aboveLast s top (components path))
 
 -- the last component

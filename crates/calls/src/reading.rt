@@ -1,5 +1,7 @@
 // The calls that change nothing.
 
+use crate::refusal::Reason;
+use crate::refusal::Refusal;
 use crate::walk;
 use crate::walk::Start;
 use alloc::access;
@@ -15,21 +17,6 @@ ghost use Rattle.calls.specs.Answers.{kindIs, foundOf, ObjectAt, FileIn,
 ghost use Prim.Native.Nat.{_<_};
 ghost use Rattle.storage.specs.Bytes.{zeroed};
 
-// A number alone.
-pub struct Checked {
-    pub refusal: u8,
-}
-
-// Whether the image is well formed.
-pub fn check(image: &[u8]) -> Checked
-    ensures { λ c. ⌜ c .refusal ≡ spec.check (now (image .entry)) ⌝ }
-{
-    if tree::verdict::judge(image).rule != 0 {
-        return Checked { refusal: 1 };
-    }
-    Checked { refusal: 0 }
-}
-
 // A file with its size and room, or a directory with its taken and total slots.
 pub enum Kind {
     File { size: u64, room: u64 },
@@ -37,7 +24,7 @@ pub enum Kind {
 }
 
 pub struct Found {
-    pub refusal: u8,
+    pub refusal: Refusal,
     pub at: Ref,
     pub kind: Kind,
 }
@@ -62,13 +49,13 @@ pub fn find(image: &[u8], path: &[u8]) -> Found
     ensures { λ f. ⌜ foundOf f ≡ spec.find (now (image .entry)) (now (path .entry)) ⌝ }
 {
     match walk::begin(image, path, true) {
-        Start::Refused(n) => Found {
-            refusal: n,
+        Start::Refused(refusal) => Found {
+            refusal,
             at: Ref(0),
             kind: Kind::File { size: 0, room: 0 },
         },
         Start::Reached(r) => Found {
-            refusal: 0,
+            refusal: Refusal::Accepted,
             at: r,
             kind: kind_at(image, r),
         },
@@ -76,7 +63,7 @@ pub fn find(image: &[u8], path: &[u8]) -> Found
 }
 
 pub struct ReadCount {
-    pub refusal: u8,
+    pub refusal: Refusal,
     pub count: u64,
 }
 
@@ -101,26 +88,29 @@ pub fn read(image: &[u8], path: &[u8], position: u64, buffer: &mut [u8]) -> Read
     let begun = walk::begin(image, path, true);
     let Start::Reached(r) = begun else {
         return ReadCount {
-            refusal: walk::number(begun),
+            refusal: walk::refusal_of(begun),
             count: 0,
         };
     };
     if block::magic_at(image, r) != block::SFRE {
         return ReadCount {
-            refusal: 5,
+            refusal: Refusal::For(Reason::IsDirectory),
             count: 0,
         };
     }
     let count = copy_from(image, r, position, buffer);
-    ReadCount { refusal: 0, count }
+    ReadCount {
+        refusal: Refusal::Accepted,
+        count,
+    }
 }
 
 pub struct Point {
-    pub refusal: u8,
+    pub refusal: Refusal,
     pub bytes: [u8; 16],
 }
 
-fn no_point(refusal: u8) -> Point
+fn no_point(refusal: Refusal) -> Point
     ensures { λ p. ⌜ (p .refusal ≡ refusal) × (p .bytes ≡ zeroed 16) ⌝ }
 {
     Point {
@@ -136,11 +126,14 @@ fn point_at(image: &[u8], r: Ref, n: u64) -> Point
 {
     let size = access::read_u64(image, r, Pos(0));
     if size < 16 * n {
-        return no_point(13);
+        return no_point(Refusal::For(Reason::PastEnd));
     }
     let mut bytes = [0u8; 16];
     access::copy_out(image, r, Pos(16 * (n as usize)), &mut bytes, 16);
-    Point { refusal: 0, bytes }
+    Point {
+        refusal: Refusal::Accepted,
+        bytes,
+    }
 }
 
 // One point of a file, whole.
@@ -150,10 +143,10 @@ pub fn read_point(image: &[u8], path: &[u8], number: u64) -> Point
     let allowed = (1 <= number) & (number <= 4096);
     let begun = walk::begin(image, path, allowed);
     let Start::Reached(r) = begun else {
-        return no_point(walk::number(begun));
+        return no_point(walk::refusal_of(begun));
     };
     if block::magic_at(image, r) != block::SFRE {
-        return no_point(5);
+        return no_point(Refusal::For(Reason::IsDirectory));
     }
     point_at(image, r, number)
 }

@@ -1,5 +1,8 @@
 // The walk along a path, and how every call on a path begins.
 
+use crate::refusal;
+use crate::refusal::Reason;
+use crate::refusal::Refusal;
 use crate::slots;
 use crate::slots::Index;
 use alloc::block;
@@ -12,7 +15,7 @@ ghost use Rattle.path.specs.Path.{components};
 ghost use Rattle.tree.specs.Verdict.{wellFormed};
 ghost use Rattle.calls.specs.Walk as spec;
 ghost use Rattle.calls.specs.Walk.{step, walkFrom};
-ghost use Rattle.calls.specs.Answers.{stepOf, startOf, ObjectAt, DirectoryIn, refusalOf, numberOf};
+ghost use Rattle.calls.specs.Answers.{stepOf, startOf, ObjectAt, DirectoryIn, walkRefusal, startRefusal};
 
 // Where one step comes to: the child, no such component, or a file in the way.
 pub enum Step {
@@ -46,30 +49,30 @@ fn take_step(image: &[u8], r: Ref, name: &[u8]) -> Step
     child(image, r, name)
 }
 
-// How a call begins: refused with a number, or the ref that the path names.
+// How a call begins: refused, or the ref that the path names.
 pub enum Start {
-    Refused(u8),
+    Refused(Refusal),
     Reached(Ref),
 }
 
-// The number of a call that was refused at its beginning.
-pub fn number(s: Start) -> u8
-    ensures { λ n. ⌜ n ≡ numberOf (startOf s) ⌝ }
+// The refusal of a call that is refused as it begins.
+pub fn refusal_of(s: Start) -> Refusal
+    ensures { λ r. ⌜ r ≡ startRefusal (startOf s) ⌝ }
 {
     match s {
-        Start::Refused(n) => n,
-        Start::Reached(_) => 0,
+        Start::Refused(r) => r,
+        Start::Reached(_) => Refusal::Accepted,
     }
 }
 
 // The refusal of a step that has no child.
-fn refusal_of(s: Step) -> u8
-    ensures { λ n. ⌜ n ≡ refusalOf (stepOf s) ⌝ }
+fn step_refusal(s: Step) -> Refusal
+    ensures { λ r. ⌜ r ≡ walkRefusal (stepOf s) ⌝ }
 {
     match s {
-        Step::Child(_) => 0,
-        Step::Missing => 3,
-        Step::Blocked => 4,
+        Step::Child(_) => Refusal::Accepted,
+        Step::Missing => Refusal::For(Reason::NotFound),
+        Step::Blocked => Refusal::For(Reason::NotDirectory),
     }
 }
 
@@ -85,7 +88,7 @@ fn walk_from(image: &[u8], path: &[u8]) -> Start
         let name = path::component(path, i);
         let came = take_step(image, here, name);
         let Step::Child(next) = came else {
-            return Start::Refused(refusal_of(came));
+            return Start::Refused(step_refusal(came));
         };
         here = next;
         i += 1;
@@ -93,50 +96,51 @@ fn walk_from(image: &[u8], path: &[u8]) -> Start
     Start::Reached(here)
 }
 
-// What is looked for first, 0 for none of it: 1, 2, and 10 where the numbers are not allowed.
-fn opening(image: &[u8], path: &[u8], allowed: bool) -> u8
-    ensures { λ n. ⌜ n ≡ spec.opening (now (image .entry)) (now (path .entry)) allowed ⌝ }
+// What is looked for first: the image's own refusal, then the path's, then that of numbers that are not allowed.
+fn opening(image: &[u8], path: &[u8], allowed: bool) -> Refusal
+    ensures { λ r. ⌜ r ≡ spec.opening (now (image .entry)) (now (path .entry)) allowed ⌝ }
 {
-    if tree::verdict::judge(image).rule != 0 {
-        return 1;
+    let own = crate::check::check(image);
+    if refusal::number(own) != 0 {
+        return own;
     }
     if !path::valid_path(path) {
-        return 2;
+        return Refusal::For(Reason::BadPath);
     }
     if !allowed {
-        return 10;
+        return Refusal::For(Reason::OutOfBounds);
     }
-    0
+    Refusal::Accepted
 }
 
-// How a call on what the path names begins: 1, 2, 10, then the walk's 3 and 4.
+// How a call on what the path names begins: the refusals of `opening`, then the walk's.
 pub fn begin(image: &[u8], path: &[u8], allowed: bool) -> Start
     ensures { λ x. ⌜ startOf x ≡ spec.start (now (image .entry)) (now (path .entry)) allowed ⌝ }
 {
     let first = opening(image, path, allowed);
-    if first != 0 {
+    if refusal::number(first) != 0 {
         return Start::Refused(first);
     }
     walk_from(image, path)
 }
 
-// How a call on a slot of the directory that holds the last component begins: 1, 2, 10, `top` for the root, then the walk's 3 and 4.
-pub fn begin_above(image: &[u8], path: &[u8], allowed: bool, top: u8) -> Start
+// How a call on a slot of the directory that holds the last component begins: the refusals of `opening`, `top` for the root, then the walk's.
+pub fn begin_above(image: &[u8], path: &[u8], allowed: bool, top: Reason) -> Start
     ensures { λ x. ⌜ startOf x ≡ spec.startAbove (now (image .entry)) (now (path .entry)) allowed top ⌝ }
 {
     let first = opening(image, path, allowed);
-    if first != 0 {
+    if refusal::number(first) != 0 {
         return Start::Refused(first);
     }
     if path::count(path) == 0 {
-        return Start::Refused(top);
+        return Start::Refused(Refusal::For(top));
     }
     let begun = walk_from(image, path::directory(path));
     let Start::Reached(d) = begun else {
-        return Start::Refused(number(begun));
+        return Start::Refused(refusal_of(begun));
     };
     if block::magic_at(image, d) != block::SFDE {
-        return Start::Refused(4);
+        return Start::Refused(Refusal::For(Reason::NotDirectory));
     }
     Start::Reached(d)
 }

@@ -26,6 +26,8 @@ use Rattle.alloc.proofs.Filling.{place-spliced}
 use Rattle.alloc.proofs.Releasing.{length-zeroed}
 use Rattle.alloc.proofs.Soundness.{image-sound, image-volume}
 use Rattle.alloc.proofs.Stages.{PlacedIn, stage-placed, stage-start, stage-unplaced}
+use Rattle.calls.specs.declared.refusal.Reason.the-variants.{BadLength, NoRoom, OutOfBounds}
+use Rattle.calls.specs.declared.refusal.Refusal.the-variants.{Accepted, For}
 use Rattle.changes.specs.Answers.{Changes}
 use Rattle.changes.specs.Changing.{format, formatted, newDirectory, withRoot}
 use Rattle.changes.proofs.Storing.{Open, answered, open-image, open-placed, store, store-at}
@@ -122,25 +124,25 @@ module _ (lo hi k : ℕ) where
 -- ---- format, by its tests
 
 module _ (s : List ℕ) (k : ℕ) where
-  pub format-length : lengthAllowed (length s) ≡ false → Changes (format s k) 1 s
+  pub format-length : lengthAllowed (length s) ≡ false → Changes (format s k) (For BadLength) s
   unfolding format
   format-length e = answered (rw (e, format))
 
   module _ (e : lengthAllowed (length s) ≡ true) where
-    pub format-slots : within 1 1024 k ≡ false → Changes (format s k) 10 s
+    pub format-slots : within 1 1024 k ≡ false → Changes (format s k) (For OutOfBounds) s
     unfolding format
     format-slots f = answered (rw (e, f, format))
 
     module _ (b : (1 ≤ k) × (k ≤ 1024)) where
-      pub format-room : length s < 48 + 16 * k → Changes (format s k) 8 s
+      pub format-room : length s < 48 + 16 * k → Changes (format s k) (For NoRoom) s
       unfolding format
       format-room h =
           answered
           (rw (e, le-leb 1 k (b .0), le-leb k 1024 (b .1), lt-leb (32 + 16 * units (newDirectory 2 k)) (length s) (omega (arith, directory-units 2 k)), format))
 
-      pub format-done : 48 + 16 * k ≤ length s → {t : List ℕ} → t ≡ image (formatted (length s) k) → Changes (format s k) 0 t
+      pub format-done : 48 + 16 * k ≤ length s → {t : List ℕ} → t ≡ image (formatted (length s) k) → Changes (format s k) Accepted t
       unfolding format
       format-done h {t} g =
-          subst (Changes (format s k) 0) (sym g)
+          subst (Changes (format s k) Accepted) (sym g)
           (answered
           (rw (e, le-leb 1 k (b .0), le-leb k 1024 (b .1), le-leb (32 + 16 * units (newDirectory 2 k)) (length s) (omega (arith, directory-units 2 k)), format)))

@@ -30,6 +30,9 @@ use Rattle.alloc.proofs.Releasing.{length-zeroed}
 use Rattle.alloc.proofs.Stages.{PairIn, stage-pair, stage-start, stage-unpaired}
 use Rattle.tree.specs.Fields.{total}
 use Rattle.tree.proofs.Formed.{dir-there, formed-dir, formed-sound}
+use Rattle.calls.specs.declared.refusal.Reason.the-variants.{Exists, NoRoom, NoSlot}
+use Rattle.calls.specs.declared.refusal.Refusal.{Refusal}
+use Rattle.calls.specs.declared.refusal.Refusal.the-variants.{Accepted, For}
 use Rattle.calls.specs.Reading.{blockIn}
 use Rattle.calls.specs.Walk.{Start, emptySlot, lastName, reached, refused, slotNamed, startAbove}
 use Rattle.changes.specs.Answers.{Makes, Named, Vacant, magicFor, parentField, sizeFor}
@@ -108,21 +111,21 @@ module _ {s : List ℕ} (h : AllBytes s) {d i : ℕ} {w : List ℕ} {new : New} 
 
   fill-so : (o : Option PlacedPair) → placePair (newName w) (newBlock new d) es ≡ o
       → fillSlot s new w d i ≡ elim o [
-        | none ↦ unmade 8 s
-        | some x ↦ record { refusal = 0; at = x .object; image = image (withRoot s (setSlot d i (x .name) (x .object) (x .extents))) }
+        | none ↦ unmade (For NoRoom) s
+        | some x ↦ record { refusal = Accepted; at = x .object; image = image (withRoot s (setSlot d i (x .name) (x .object) (x .extents))) }
       ]
   unfolding fillSlot
   fill-so o e = rw (e, fillSlot)
 
   -- no room
-  pub fill-none : {t : List ℕ} → PlacesPair s (length w) (magicFor new) (sizeFor new) none t → Makes (fillSlot s new w d i) 8 0 t
+  pub fill-none : {t : List ℕ} → PlacesPair s (length w) (magicFor new) (sizeFor new) none t → Makes (fillSlot s new w d i) (For NoRoom) 0 t
   fill-none {t} p =
       let q = stage-unpaired (stage-start vacant-sound) p in
       let e : placePair (newName w) (newBlock new d) es ≡ none =
       ap (λ (b : Block). placePair b (newBlock new d) es) (sym (filled-name w))
       ∙ ap (λ (b : Block). placePair (spliced name 0 w) b es) (sym (filled-object new d))
       ∙ pair-unfilled name object es 0 w 0 (parentField new d) (q .0) name-fits object-fits (omega arith) (magic-there new) in
-      subst (λ (m : Made). Makes m 8 0 t) (sym (fill-so none e)) (record { refusal-is = refl; at-is = refl; image-is = q .1 })
+      subst (λ (m : Made). Makes m (For NoRoom) 0 t) (sym (fill-so none e)) (record { refusal-is = refl; at-is = refl; image-is = q .1 })
 
   module _ {n o : ℕ} {t : List ℕ} (p : PlacesPair s (length w) (magicFor new) (sizeFor new) (some (n, o)) t) where
     pair : PairIn s es name object n o t
@@ -172,7 +175,7 @@ module _ {s : List ℕ} (h : AllBytes s) {d i : ℕ} {w : List ℕ} {new : New} 
         pub fill-slot : Holds t2 d × (24 + 16 * i ≤ sizeAt t2 d)
         fill-slot = let k = store-at filled-open (8 + 16 * i) 16 (omega (arith, v .slot)) in (k .0, omega (arith, k .1))
 
-        pub fill-done : {t3 : List ℕ} → t3 ≡ afterUpdate d (8 + 16 * i) (be64 n ++ be64 o) t2 → Makes (fillSlot s new w d i) 0 o t3
+        pub fill-done : {t3 : List ℕ} → t3 ≡ afterUpdate d (8 + 16 * i) (be64 n ++ be64 o) t2 → Makes (fillSlot s new w d i) Accepted o t3
         fill-done {t3} e3 =
             let f : ℕ → ℕ → List ℕ = λ a b. image (withRoot s (setSlot d i a b (updated b 0 (parentField new d) 2 (updated a 0 w 2 (x .extents))))) in
             let g : t3 ≡ f n o = open-image (store filled-open (8 + 16 * i) (be64 n ++ be64 o) (omega (arith, slot-length n o, v .slot)) e3) in
@@ -181,7 +184,7 @@ module _ {s : List ℕ} (h : AllBytes s) {d i : ℕ} {w : List ℕ} {new : New} 
             ap (λ (b : Block). placePair b (newBlock new d) es) (sym (filled-name w))
             ∙ ap (λ (b : Block). placePair (spliced name 0 w) b es) (sym (filled-object new d))
             ∙ pair-filled name object es x 0 w 0 (parentField new d) (pair .places) name-fits object-fits (omega arith) (magic-there new) in
-            subst (λ (m : Made). Makes m 0 o t3) (sym (fill-so _ e)) (record {
+            subst (λ (m : Made). Makes m Accepted o t3) (sym (fill-so _ e)) (record {
               refusal-is = refl;
               at-is = sym (pair .object-ref);
               image-is = g ∙ ap (λ (a : ℕ). f a o) (sym (pair .name-ref)) ∙ ap (f (x .name)) (sym (pair .object-ref));
@@ -191,34 +194,34 @@ module _ {s : List ℕ} (h : AllBytes s) {d i : ℕ} {w : List ℕ} {new : New} 
 
 module _ (s : List ℕ) (new : New) (w : List ℕ) (d : ℕ) where
   -- the name is there
-  pub make-there : {j : ℕ} → some j ≡ slotNamed (objects (volumeOf s)) (blockIn s d) w → Makes (makeIn s new w d) 6 0 s
+  pub make-there : {j : ℕ} → some j ≡ slotNamed (objects (volumeOf s)) (blockIn s d) w → Makes (makeIn s new w d) (For Exists) 0 s
   unfolding makeIn
   make-there e = rw (sym e, makeIn) (record { refusal-is = refl; at-is = refl; image-is = refl })
 
   module _ (e : none ≡ slotNamed (objects (volumeOf s)) (blockIn s d) w) where
     -- no slot is empty
-    pub make-full : none ≡ emptySlot (blockIn s d) → Makes (makeIn s new w d) 7 0 s
+    pub make-full : none ≡ emptySlot (blockIn s d) → Makes (makeIn s new w d) (For NoSlot) 0 s
     unfolding makeIn
     make-full f = rw (sym e, makeIn) (rw (sym f) (record { refusal-is = refl; at-is = refl; image-is = refl }))
 
-    pub make-filled : {i : ℕ} → some i ≡ emptySlot (blockIn s d) → (n o : ℕ) (t : List ℕ) → Makes (fillSlot s new w d i) n o t → Makes (makeIn s new w d) n o t
+    pub make-filled : {i : ℕ} → some i ≡ emptySlot (blockIn s d) → (n : Refusal) (o : ℕ) (t : List ℕ) → Makes (fillSlot s new w d i) n o t → Makes (makeIn s new w d) n o t
     unfolding makeIn
     make-filled f n o t m = rw (sym e, makeIn) (rw (sym f) m)
 
 -- ---- on a path
 
 module _ (s path : List ℕ) (new : New) where
-  made : (x : Start) → x ≡ startAbove s path (allowed new) 6 → (n o : ℕ) (t : List ℕ) → Makes (makeAt s new (lastName path) x) n o t → Makes (make s path new) n o t
+  made : (x : Start) → x ≡ startAbove s path (allowed new) Exists → (n : Refusal) (o : ℕ) (t : List ℕ) → Makes (makeAt s new (lastName path) x) n o t → Makes (make s path new) n o t
   unfolding make
   made x e n o t m = subst (λ (y : Start). Makes (makeAt s new (lastName path) y) n o t) e m
 
   module _ {a : Bool} (b : a ≡ allowed new) where
-    pub make-refused : (n : ℕ) → refused n ≡ startAbove s path a 6 → (k o : ℕ) → k ≡ n → o ≡ 0 → Makes (make s path new) k o s
-    make-refused n e k o f g = made (refused n) (e ∙ ap (λ (t : Bool). startAbove s path t 6) b) k o s (record { refusal-is = f; at-is = g; image-is = refl })
+    pub make-refused : (n : Refusal) → refused n ≡ startAbove s path a Exists → (k : Refusal) (o : ℕ) → k ≡ n → o ≡ 0 → Makes (make s path new) k o s
+    make-refused n e k o f g = made (refused n) (e ∙ ap (λ (t : Bool). startAbove s path t Exists) b) k o s (record { refusal-is = f; at-is = g; image-is = refl })
 
-    pub make-reached : (d : ℕ) → reached d ≡ startAbove s path a 6 → (w : List ℕ) → w ≡ lastName path → (n o : ℕ) (t : List ℕ)
+    pub make-reached : (d : ℕ) → reached d ≡ startAbove s path a Exists → (w : List ℕ) → w ≡ lastName path → (n : Refusal) (o : ℕ) (t : List ℕ)
         → Makes (makeIn s new w d) n o t → Makes (make s path new) n o t
-    make-reached d e w f n o t m = made (reached d) (e ∙ ap (λ (t : Bool). startAbove s path t 6) b) n o t (subst (λ (v : List ℕ). Makes (makeIn s new v d) n o t) f m)
+    make-reached d e w f n o t m = made (reached d) (e ∙ ap (λ (t : Bool). startAbove s path t Exists) b) n o t (subst (λ (v : List ℕ). Makes (makeIn s new v d) n o t) f m)
 
 -- the last component is as long as a name
 pub last-named : (path w : List ℕ) → validPath path ≡ true → (length (components path) ≡ 0 → ⊥) → w ≡ lastName path → Named w
@@ -252,7 +255,7 @@ pair-told {s} {t} {k} {m} {n} {m′} {n′} {o} {o′} e f g p =
 pub object-told : {m n m′ n′ : ℕ} → m ≡ m′ → n ≡ n′ → Object m′ n′ → Object m n
 object-told {m} {n} {m′} {n′} e f o = subst (λ (x : ℕ). Object x n) (sym e) (subst (λ (x : ℕ). Object m′ x) (sym f) o)
 
-pub unmade-told : {m : Made} {t : List ℕ} {k n o : ℕ} → n ≡ k → o ≡ 0 → Makes m k 0 t → Makes m n o t
+pub unmade-told : {m : Made} {t : List ℕ} {k n : Refusal} {o : ℕ} → n ≡ k → o ≡ 0 → Makes m k 0 t → Makes m n o t
 unmade-told e f w = record { refusal-is = e ∙ w .refusal-is; at-is = f ∙ w .at-is; image-is = w .image-is }
 
 pub file-allowed : (n : ℕ) → leb n 65536 ≡ allowed (file n)

@@ -24,6 +24,9 @@ use Rattle.tree.specs.Fields.{Slot, isDir, isFile, slotAt, slots, taken, takenC
 use Rattle.tree.specs.WellFormed.{is-taken}
 use Rattle.tree.proofs.Formed.{Filled, dir-there, file-there, formed-dir, formed-sound, formed-taken, name-there}
 use Rattle.tree.proofs.Indexed.{slots-other}
+use Rattle.calls.specs.declared.refusal.Reason.the-variants.{IsRoot, NotEmpty, NotFound}
+use Rattle.calls.specs.declared.refusal.Refusal.{Refusal}
+use Rattle.calls.specs.declared.refusal.Refusal.the-variants.{Accepted, For}
 use Rattle.calls.specs.Answers.{DirectoryIn}
 use Rattle.calls.specs.Reading.{blockIn}
 use Rattle.calls.specs.Walk.{Start, lastName, reached, refused, slotNamed, startAbove}
@@ -116,7 +119,7 @@ module _ {s : List ℕ} (h : AllBytes s) {d i : ℕ} (k : TakenSlot s d i) where
 -- ---- from a directory
 
 module _ (s w : List ℕ) (d : ℕ) where
-  pub remove-missing : none ≡ slotNamed (objects (volumeOf s)) (blockIn s d) w → Changes (removeIn s w d) 3 s
+  pub remove-missing : none ≡ slotNamed (objects (volumeOf s)) (blockIn s d) w → Changes (removeIn s w d) (For NotFound) s
   unfolding removeIn
   remove-missing e = rw (sym e, removeIn) (record { refusal-is = refl; image-is = refl })
 
@@ -132,11 +135,11 @@ module _ (s w : List ℕ) (d : ℕ) where
         not-not true = refl
         not-not false = refl
 
-    pub remove-held : t ≡ true → Changes (removeIn s w d) 9 s
+    pub remove-held : t ≡ true → Changes (removeIn s w d) (For NotEmpty) s
     unfolding removeIn
     remove-held q = rw (sym e, removeIn) (rw (holder ∙ ap not q) (record { refusal-is = refl; image-is = refl }))
 
-    pub remove-cleared : t ≡ false → (u : List ℕ) → u ≡ image (removed s d i) → Changes (removeIn s w d) 0 u
+    pub remove-cleared : t ≡ false → (u : List ℕ) → u ≡ image (removed s d i) → Changes (removeIn s w d) Accepted u
     unfolding removeIn
     remove-cleared q u p = rw (sym e, removeIn) (rw (holder ∙ ap not q) (record { refusal-is = refl; image-is = p }))
 
@@ -149,13 +152,13 @@ found-taken {s} {d} {i} w k e =
 -- ---- on a path
 
 module _ (s path : List ℕ) where
-  gone : (x : Start) → x ≡ startAbove s path true 11 → (n : ℕ) (t : List ℕ) → Changes (removeAt s (lastName path) x) n t → Changes (remove s path) n t
+  gone : (x : Start) → x ≡ startAbove s path true IsRoot → (n : Refusal) (t : List ℕ) → Changes (removeAt s (lastName path) x) n t → Changes (remove s path) n t
   unfolding remove
   gone x e n t c = subst (λ (y : Start). Changes (removeAt s (lastName path) y) n t) e c
 
-  pub remove-refused : (n : ℕ) → refused n ≡ startAbove s path true 11 → Changes (remove s path) n s
+  pub remove-refused : (n : Refusal) → refused n ≡ startAbove s path true IsRoot → Changes (remove s path) n s
   remove-refused n e = gone (refused n) e n s (record { refusal-is = refl; image-is = refl })
 
-  pub remove-reached : (d : ℕ) → reached d ≡ startAbove s path true 11 → (w : List ℕ) → w ≡ lastName path → (n : ℕ) (t : List ℕ)
+  pub remove-reached : (d : ℕ) → reached d ≡ startAbove s path true IsRoot → (w : List ℕ) → w ≡ lastName path → (n : Refusal) (t : List ℕ)
       → Changes (removeIn s w d) n t → Changes (remove s path) n t
   remove-reached d e w f n t c = gone (reached d) e n t (subst (λ (v : List ℕ). Changes (removeIn s v d) n t) f c)

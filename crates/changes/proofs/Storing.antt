@@ -22,6 +22,9 @@ use Rattle.alloc.proofs.Releasing.{length-zeroed}
 use Rattle.alloc.proofs.Stages.{PlacedIn, stage-holds, stage-image, stage-size, stage-start, stage-updated}
 use Rattle.tree.specs.Fields.{fileSize, isFile, room}
 use Rattle.tree.proofs.Formed.{file-there, formed-file, formed-sound}
+use Rattle.calls.specs.declared.refusal.Reason.the-variants.{IsDirectory, PastRoom}
+use Rattle.calls.specs.declared.refusal.Refusal.{Refusal}
+use Rattle.calls.specs.declared.refusal.Refusal.the-variants.{Accepted, For}
 use Rattle.calls.specs.Answers.{FileIn}
 use Rattle.calls.specs.Reading.{blockIn}
 use Rattle.calls.specs.Walk.{Start, reached, refused, start}
@@ -106,14 +109,14 @@ store-both {s} {r} {n} {es} o p x {q} y f m {u} {v} e g =
 -- ---- answers
 
 -- of a known outcome
-pub answered : {o : Outcome} {n : ℕ} {t : List ℕ} → o ≡ record { refusal = n; image = t } → Changes o n t
+pub answered : {o : Outcome} {n : Refusal} {t : List ℕ} → o ≡ record { refusal = n; image = t } → Changes o n t
 answered e = record { refusal-is = sym (ap (λ (x : Outcome). x .refusal) e); image-is = sym (ap (λ (x : Outcome). x .image) e) }
 
 -- by a test
-chosen : (t : Bool) (a b : Outcome) → t ≡ true → {n : ℕ} {u : List ℕ} → Changes a n u → Changes (cond t a b) n u
+chosen : (t : Bool) (a b : Outcome) → t ≡ true → {n : Refusal} {u : List ℕ} → Changes a n u → Changes (cond t a b) n u
 chosen t a b e {n} {u} c = subst (λ (q : Bool). Changes (cond q a b) n u) (sym e) c
 
-passed : (t : Bool) (a b : Outcome) → t ≡ false → {n : ℕ} {u : List ℕ} → Changes b n u → Changes (cond t a b) n u
+passed : (t : Bool) (a b : Outcome) → t ≡ false → {n : Refusal} {u : List ℕ} → Changes b n u → Changes (cond t a b) n u
 passed t a b e {n} {u} c = subst (λ (q : Bool). Changes (cond q a b) n u) (sym e) c
 
 -- ---- a file's bytes
@@ -138,7 +141,7 @@ module _ {s : List ℕ} (h : AllBytes s) {r : ℕ} (f : FileIn s r) where
         bytes-open = store-both (open-file h f) (16 + from) (zeroed (position - from)) bytes (omega (arith, length-zeroed (position - from))) (omega arith) et eu
 
         -- after the size
-        pub written-done : 0 < length bytes → {size : ℕ} → size ≡ max z (position + length bytes) → {v : List ℕ} → v ≡ afterUpdate r 0 (be64 size) u → Changes (written s r position bytes) 0 v
+        pub written-done : 0 < length bytes → {size : ℕ} → size ≡ max z (position + length bytes) → {v : List ℕ} → v ≡ afterUpdate r 0 (be64 size) u → Changes (written s r position bytes) Accepted v
         written-done p {size} d {v} ev =
             by-bytes bytes p
             (size-stored from size (zeroed (position - from) ++ bytes) bytes-open ev
@@ -148,7 +151,7 @@ module _ {s : List ℕ} (h : AllBytes s) {r : ℕ} (f : FileIn s r) where
           where
             by-bytes : (y : List ℕ) → 0 < length y
                 → v ≡ image (stored s r (max (fileSize (blockIn s r)) (position + length y)) (min position (fileSize (blockIn s r))) (zeroed (position - min position (fileSize (blockIn s r))) ++ y))
-                → Changes (written s r position y) 0 v
+                → Changes (written s r position y) Accepted v
             by-bytes [] q w = absurd (omega arith)
             by-bytes (y ∷ ys) q w = record { refusal-is = refl; image-is = w }
 
@@ -164,7 +167,7 @@ module _ {s : List ℕ} (h : AllBytes s) {r : ℕ} (f : FileIn s r) where
         cut-open = store (open-file h f) (16 + from) (zeroed (to - from)) (omega (arith, length-zeroed (to - from), cut-inside)) et
 
         -- after the size
-        pub resized-done : {v : List ℕ} → v ≡ afterUpdate r 0 (be64 size) t → Changes (resized s r size) 0 v
+        pub resized-done : {v : List ℕ} → v ≡ afterUpdate r 0 (be64 size) t → Changes (resized s r size) Accepted v
         resized-done {v} ev = record {
           refusal-is = refl;
           image-is =
@@ -176,25 +179,25 @@ module _ {s : List ℕ} (h : AllBytes s) {r : ℕ} (f : FileIn s r) where
 
 -- 12, or within the room; no bytes change nothing
 module _ (s : List ℕ) (r position : ℕ) (bytes : List ℕ) where
-  pub write-past : room (blockIn s r) < position + length bytes → Changes (writeTo s r position bytes) 12 s
+  pub write-past : room (blockIn s r) < position + length bytes → Changes (writeTo s r position bytes) (For PastRoom) s
   write-past l = passed _ (written s r position bytes) _ (lt-leb (position + length bytes) (room (blockIn s r)) l) (answered refl)
 
   module _ (l : position + length bytes ≤ room (blockIn s r)) where
-    pub write-within : {t : List ℕ} → Changes (written s r position bytes) 0 t → Changes (writeTo s r position bytes) 0 t
+    pub write-within : {t : List ℕ} → Changes (written s r position bytes) Accepted t → Changes (writeTo s r position bytes) Accepted t
     write-within c = chosen _ (written s r position bytes) _ (le-leb (position + length bytes) (room (blockIn s r)) l) c
 
-    pub write-none : length bytes ≡ 0 → Changes (writeTo s r position bytes) 0 s
+    pub write-none : length bytes ≡ 0 → Changes (writeTo s r position bytes) Accepted s
     write-none e = write-within (go bytes e)
       where
-        go : (y : List ℕ) → length y ≡ 0 → Changes (written s r position y) 0 s
+        go : (y : List ℕ) → length y ≡ 0 → Changes (written s r position y) Accepted s
         go [] q = answered refl
         go (y ∷ ys) q = absurd (omega arith)
 
 module _ (s : List ℕ) (r size : ℕ) where
-  pub resize-past : room (blockIn s r) < size → Changes (setLengthOf s r size) 12 s
+  pub resize-past : room (blockIn s r) < size → Changes (setLengthOf s r size) (For PastRoom) s
   resize-past l = passed _ (resized s r size) _ (lt-leb size (room (blockIn s r)) l) (answered refl)
 
-  pub resize-within : size ≤ room (blockIn s r) → {t : List ℕ} → Changes (resized s r size) 0 t → Changes (setLengthOf s r size) 0 t
+  pub resize-within : size ≤ room (blockIn s r) → {t : List ℕ} → Changes (resized s r size) Accepted t → Changes (setLengthOf s r size) Accepted t
   resize-within l c = chosen _ (resized s r size) _ (le-leb size (room (blockIn s r)) l) c
 
 -- ---- the calls on a file, by how they begin
@@ -202,27 +205,27 @@ module _ (s : List ℕ) (r size : ℕ) where
 -- what a call does to the file at a ref, where it reaches one
 abbrev pub filed : List ℕ → (ℕ → Outcome) → Start → Outcome
 filed s to (refused n) = unchanged n s
-filed s to (reached r) = cond (isFile (blockIn s r)) (to r) (unchanged 5 s)
+filed s to (reached r) = cond (isFile (blockIn s r)) (to r) (unchanged (For IsDirectory) s)
 
 module _ (s path : List ℕ) (to : ℕ → Outcome) where
-  begun : {x : Start} → x ≡ start s path true → {n : ℕ} {t : List ℕ} → Changes (filed s to x) n t → Changes (filed s to (start s path true)) n t
+  begun : {x : Start} → x ≡ start s path true → {n : Refusal} {t : List ℕ} → Changes (filed s to x) n t → Changes (filed s to (start s path true)) n t
   begun e {n} {t} c = subst (λ (y : Start). Changes (filed s to y) n t) e c
 
   -- nothing reached
-  pub file-refused : {n : ℕ} → refused n ≡ start s path true → Changes (filed s to (start s path true)) n s
+  pub file-refused : {n : Refusal} → refused n ≡ start s path true → Changes (filed s to (start s path true)) n s
   file-refused {n} e = begun e (answered refl)
 
   module _ {r : ℕ} (e : reached r ≡ start s path true) where
     -- a directory
-    pub file-directory : isFile (blockIn s r) ≡ false → Changes (filed s to (start s path true)) 5 s
-    file-directory f = begun e (passed (isFile (blockIn s r)) (to r) (unchanged 5 s) f (answered refl))
+    pub file-directory : isFile (blockIn s r) ≡ false → Changes (filed s to (start s path true)) (For IsDirectory) s
+    file-directory f = begun e (passed (isFile (blockIn s r)) (to r) (unchanged (For IsDirectory) s) f (answered refl))
 
     -- a file
-    pub file-reached : isFile (blockIn s r) ≡ true → {n : ℕ} {t : List ℕ} → Changes (to r) n t → Changes (filed s to (start s path true)) n t
-    file-reached f c = begun e (chosen (isFile (blockIn s r)) (to r) (unchanged 5 s) f c)
+    pub file-reached : isFile (blockIn s r) ≡ true → {n : Refusal} {t : List ℕ} → Changes (to r) n t → Changes (filed s to (start s path true)) n t
+    file-reached f c = begun e (chosen (isFile (blockIn s r)) (to r) (unchanged (For IsDirectory) s) f c)
 
 -- write and set length are such calls
-pub write-is : (s path : List ℕ) (position : ℕ) (bytes : List ℕ) {n : ℕ} {t : List ℕ} → Changes (filed s (λ r. writeTo s r position bytes) (start s path true)) n t
+pub write-is : (s path : List ℕ) (position : ℕ) (bytes : List ℕ) {n : Refusal} {t : List ℕ} → Changes (filed s (λ r. writeTo s r position bytes) (start s path true)) n t
     → Changes (write s path position bytes) n t
 unfolding write
 write-is s path position bytes {n} {t} c = subst (λ (o : Outcome). Changes o n t) (go (start s path true)) c
@@ -231,7 +234,7 @@ write-is s path position bytes {n} {t} c = subst (λ (o : Outcome). Changes o n 
     go (refused n) = refl
     go (reached r) = refl
 
-pub set-length-is : (s path : List ℕ) (size : ℕ) {n : ℕ} {t : List ℕ} → Changes (filed s (λ r. setLengthOf s r size) (start s path true)) n t → Changes (setLength s path size) n t
+pub set-length-is : (s path : List ℕ) (size : ℕ) {n : Refusal} {t : List ℕ} → Changes (filed s (λ r. setLengthOf s r size) (start s path true)) n t → Changes (setLength s path size) n t
 unfolding setLength
 set-length-is s path size {n} {t} c = subst (λ (o : Outcome). Changes o n t) (go (start s path true)) c
   where

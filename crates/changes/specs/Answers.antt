@@ -7,19 +7,20 @@ use lib.ListN.{length}
 use Rattle.storage.specs.Bytes.{be64}
 use Rattle.alloc.specs.Block.{SFde, SFre}
 use Rattle.tree.specs.Fields.{total, slotAt, taken}
+use Rattle.calls.specs.declared.refusal.Refusal.{Refusal}
 use Rattle.calls.specs.Reading.{blockIn}
 use Rattle.calls.specs.Answers.{DirectoryIn}
 use Rattle.changes.specs.declared.make.New as declared-new
 use Rattle.changes.specs.declared.make.New.the-variants.{Directory, File}
 use Rattle.changes.specs.Changing.{Outcome, New, directory, file, allowed, Made}
 
--- a call's answer: its number, and the image then
-pub record Changes (o : Outcome) (refusal : ℕ) (image : List ℕ) : Type 0 where
+-- a call's answer, and the image then
+pub record Changes (o : Outcome) (refusal : Refusal) (image : List ℕ) : Type 0 where
   pub refusal-is : refusal ≡ o .refusal
   pub image-is : image ≡ o .image
 
 -- the answer of a make
-pub record Makes (m : Made) (refusal at : ℕ) (image : List ℕ) : Type 0 where
+pub record Makes (m : Made) (refusal : Refusal) (at : ℕ) (image : List ℕ) : Type 0 where
   pub refusal-is : refusal ≡ m .refusal
   pub at-is : at ≡ m .at
   pub image-is : image ≡ m .image

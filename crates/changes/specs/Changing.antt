@@ -1,5 +1,5 @@
--- The calls that change the image, each as a function of the image and its arguments: the number, the ref of what was made, and the image then.
--- A refusal has its number, all else zero, and the image as it was.
+-- The calls that change the image, each as a function of the image and its arguments: the refusal, the ref of what was made, and the image then.
+-- A refusal has all else zero, and the image as it was.
 use Prim.Native.Nat.{ℕ, _+_, _*_, _-_, _/_, min, max}
 use mathlib.Core.List.{List, [], _∷_, _++_}
 use mathlib.Core.Bool.{Bool, true, false, cond}
@@ -12,19 +12,22 @@ use Rattle.alloc.specs.Tiling.{within, lengthAllowed}
 use Rattle.alloc.specs.Volume.{Extent, allocated, Volume, image, volumeOf, objects}
 use Rattle.alloc.specs.Room.{placePair, released, updated, oneFree}
 use Rattle.tree.specs.Fields.{isFile, slotAt, slots, takenCount, fileSize, room}
+use Rattle.calls.specs.declared.refusal.Reason.the-variants.{BadLength, NotFound, IsDirectory, Exists, NoSlot, NoRoom, NotEmpty, OutOfBounds, IsRoot, PastRoom}
+use Rattle.calls.specs.declared.refusal.Refusal.{Refusal}
+use Rattle.calls.specs.declared.refusal.Refusal.the-variants.{Accepted, For}
 use Rattle.calls.specs.Walk.{slotNamed, emptySlot, Start, refused, reached, start, startAbove, lastName}
 use Rattle.calls.specs.Reading.{blockIn}
 
--- the number, and the image then
+-- the refusal, and the image then
 pub record Outcome : Type 0 where
-  pub refusal : ℕ
+  pub refusal : Refusal
   pub image : List ℕ
 
-abbrev pub unchanged : ℕ → List ℕ → Outcome
-unchanged n s = record { refusal = n; image = s }
+abbrev pub unchanged : Refusal → List ℕ → Outcome
+unchanged r s = record { refusal = r; image = s }
 
 abbrev pub done : Volume → Outcome
-done v = record { refusal = 0; image = image v }
+done v = record { refusal = Accepted; image = image v }
 
 -- the volume of an image, with other extents
 abbrev pub withRoot : List ℕ → List Extent → Volume
@@ -52,10 +55,10 @@ formatted n k = record { root = 2; extents = allocated (newDirectory 2 k) ∷ on
 unfoldable pub format : List ℕ → ℕ → Outcome
 format s k =
     elim (lengthAllowed (length s)) [
-      | false ↦ unchanged 1 s
+      | false ↦ unchanged (For BadLength) s
       | true ↦ elim (within 1 1024 k) [
-        | false ↦ unchanged 10 s
-        | true ↦ elim (leb (32 + 16 * units (newDirectory 2 k)) (length s)) [ false ↦ unchanged 8 s | true ↦ done (formatted (length s) k) ]
+        | false ↦ unchanged (For OutOfBounds) s
+        | true ↦ elim (leb (32 + 16 * units (newDirectory 2 k)) (length s)) [ false ↦ unchanged (For NoRoom) s | true ↦ done (formatted (length s) k) ]
       ]
     ]
 
@@ -80,36 +83,36 @@ setSlot d i n o es = updated d (8 + 16 * i) (be64 n ++ be64 o) 2 es
 
 -- the ref is that of the new object
 pub record Made : Type 0 where
-  pub refusal : ℕ
+  pub refusal : Refusal
   pub at : ℕ
   pub image : List ℕ
 
-abbrev pub unmade : ℕ → List ℕ → Made
-unmade n s = record { refusal = n; at = 0; image = s }
+abbrev pub unmade : Refusal → List ℕ → Made
+unmade r s = record { refusal = r; at = 0; image = s }
 
 -- both blocks placed, and their refs in slot i of the directory at ref d; 8 where there is no room for both
 unfoldable pub fillSlot : List ℕ → New → List ℕ → ℕ → ℕ → Made
 fillSlot s new w d i =
     elim (placePair (newName w) (newBlock new d) (volumeOf s .extents)) [
-      | none ↦ unmade 8 s
+      | none ↦ unmade (For NoRoom) s
       | some x ↦
-          record { refusal = 0; at = x .object; image = image (withRoot s (setSlot d i (x .name) (x .object) (x .extents))) }
+          record { refusal = Accepted; at = x .object; image = image (withRoot s (setSlot d i (x .name) (x .object) (x .extents))) }
     ]
 
 -- in the directory at ref d: 6 where the name is there, 7 where no slot is empty, or the lowest empty slot
 unfoldable pub makeIn : List ℕ → New → List ℕ → ℕ → Made
 makeIn s new w d =
     elim (slotNamed (objects (volumeOf s)) (blockIn s d) w) [
-      | some i ↦ unmade 6 s
-      | none ↦ elim (emptySlot (blockIn s d)) [ none ↦ unmade 7 s | some i ↦ fillSlot s new w d i ]
+      | some i ↦ unmade (For Exists) s
+      | none ↦ elim (emptySlot (blockIn s d)) [ none ↦ unmade (For NoSlot) s | some i ↦ fillSlot s new w d i ]
     ]
 
 abbrev pub makeAt : List ℕ → New → List ℕ → Start → Made
-makeAt s new w (refused n) = unmade n s
+makeAt s new w (refused r) = unmade r s
 makeAt s new w (reached d) = makeIn s new w d
 
 unfoldable pub make : List ℕ → List ℕ → New → Made
-make s path new = makeAt s new (lastName path) (startAbove s path (allowed new) 6)
+make s path new = makeAt s new (lastName path) (startAbove s path (allowed new) Exists)
 
 -- ---- remove: the slot emptied, both blocks freed
 
@@ -122,17 +125,17 @@ removed s d i =
 unfoldable pub removeIn : List ℕ → List ℕ → ℕ → Outcome
 removeIn s w d =
     elim (slotNamed (objects (volumeOf s)) (blockIn s d) w) [
-      | none ↦ unchanged 3 s
+      | none ↦ unchanged (For NotFound) s
       | some i ↦
-          elim (eqb (takenCount (slots (blockIn s (slotAt (blockIn s d) i .1)))) 0) [ false ↦ unchanged 9 s | true ↦ done (removed s d i) ]
+          elim (eqb (takenCount (slots (blockIn s (slotAt (blockIn s d) i .1)))) 0) [ false ↦ unchanged (For NotEmpty) s | true ↦ done (removed s d i) ]
     ]
 
 abbrev pub removeAt : List ℕ → List ℕ → Start → Outcome
-removeAt s w (refused n) = unchanged n s
+removeAt s w (refused r) = unchanged r s
 removeAt s w (reached d) = removeIn s w d
 
 unfoldable pub remove : List ℕ → List ℕ → Outcome
-remove s path = removeAt s (lastName path) (startAbove s path true 11)
+remove s path = removeAt s (lastName path) (startAbove s path true IsRoot)
 
 -- ---- write and set length
 
@@ -142,7 +145,7 @@ stored s r size from x = withRoot s (updated r 0 (be64 size) 2 (updated r (16 + 
 
 -- bytes from a position on; a gap after the old end becomes zeros; none change nothing
 abbrev pub written : List ℕ → ℕ → ℕ → List ℕ → Outcome
-written s r position [] = unchanged 0 s
+written s r position [] = unchanged Accepted s
 written s r position (y ∷ ys) =
     let old = fileSize (blockIn s r) in
     let end = position + length (y ∷ ys) in
@@ -151,11 +154,11 @@ written s r position (y ∷ ys) =
 
 -- 12 where the end is past the room
 abbrev pub writeTo : List ℕ → ℕ → ℕ → List ℕ → Outcome
-writeTo s r position bytes = cond (leb (position + length bytes) (room (blockIn s r))) (written s r position bytes) (unchanged 12 s)
+writeTo s r position bytes = cond (leb (position + length bytes) (room (blockIn s r))) (written s r position bytes) (unchanged (For PastRoom) s)
 
 abbrev pub writeAt : List ℕ → ℕ → List ℕ → Start → Outcome
-writeAt s position bytes (refused n) = unchanged n s
-writeAt s position bytes (reached r) = cond (isFile (blockIn s r)) (writeTo s r position bytes) (unchanged 5 s)
+writeAt s position bytes (refused r) = unchanged r s
+writeAt s position bytes (reached r) = cond (isFile (blockIn s r)) (writeTo s r position bytes) (unchanged (For IsDirectory) s)
 
 unfoldable pub write : List ℕ → List ℕ → ℕ → List ℕ → Outcome
 write s path position bytes = writeAt s position bytes (start s path true)
@@ -169,11 +172,11 @@ resized s r size =
 
 -- 12 where the length is past the room
 abbrev pub setLengthOf : List ℕ → ℕ → ℕ → Outcome
-setLengthOf s r size = cond (leb size (room (blockIn s r))) (resized s r size) (unchanged 12 s)
+setLengthOf s r size = cond (leb size (room (blockIn s r))) (resized s r size) (unchanged (For PastRoom) s)
 
 abbrev pub setLengthAt : List ℕ → ℕ → Start → Outcome
-setLengthAt s size (refused n) = unchanged n s
-setLengthAt s size (reached r) = cond (isFile (blockIn s r)) (setLengthOf s r size) (unchanged 5 s)
+setLengthAt s size (refused r) = unchanged r s
+setLengthAt s size (reached r) = cond (isFile (blockIn s r)) (setLengthOf s r size) (unchanged (For IsDirectory) s)
 
 unfoldable pub setLength : List ℕ → List ℕ → ℕ → Outcome
 setLength s path size = setLengthAt s size (start s path true)

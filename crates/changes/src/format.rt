@@ -3,6 +3,8 @@
 use alloc::access;
 use alloc::block;
 use alloc::place::Placing;
+use calls::refusal::Reason;
+use calls::refusal::Refusal;
 use storage::Pos;
 use storage::Ref;
 ghost use mathlib.Core.Path.{_≡_};
@@ -13,11 +15,6 @@ ghost use Rattle.alloc.specs.Tiling.{lengthAllowed};
 ghost use Rattle.alloc.specs.Volume as volume;
 ghost use Rattle.changes.specs.Changing as spec;
 ghost use Rattle.changes.specs.Answers.{Changes};
-
-// A number alone.
-pub struct Done {
-    pub refusal: u8,
-}
 
 // The root with so many slots, and the rest free.
 fn fresh(image: &mut [u8], slots: u32)
@@ -33,19 +30,19 @@ fn fresh(image: &mut [u8], slots: u32)
 }
 
 // For any bytes: superblock and root, the rest one free block.
-pub fn format(image: &mut [u8], slots: u64) -> Done
-    ensures { λ d. ⌜ Changes (spec.format (now (image .entry)) slots) (d .refusal) (now (image .exit)) ⌝ }
+pub fn format(image: &mut [u8], slots: u64) -> Refusal
+    ensures { λ d. ⌜ Changes (spec.format (now (image .entry)) slots) d (now (image .exit)) ⌝ }
 {
     let len = image.len();
     if !alloc::tiling::length_allowed(len) {
-        return Done { refusal: 1 };
+        return Refusal::For(Reason::BadLength);
     }
     if (slots < 1) | (1024 < slots) {
-        return Done { refusal: 10 };
+        return Refusal::For(Reason::OutOfBounds);
     }
     if len < 48 + 16 * (slots as usize) {
-        return Done { refusal: 8 };
+        return Refusal::For(Reason::NoRoom);
     }
     fresh(image, slots as u32);
-    Done { refusal: 0 }
+    Refusal::Accepted
 }

@@ -4,6 +4,8 @@ use alloc::access;
 use alloc::block;
 use alloc::pair;
 use alloc::pair::Pair;
+use calls::refusal::Reason;
+use calls::refusal::Refusal;
 use calls::slots;
 use calls::slots::Index;
 use calls::walk;
@@ -22,11 +24,11 @@ ghost use Rattle.changes.specs.Changing as spec;
 ghost use Rattle.changes.specs.Answers.{newOf, magicFor, sizeFor, parentField, Vacant, Makes, Named};
 
 pub struct Made {
-    pub refusal: u8,
+    pub refusal: Refusal,
     pub at: Ref,
 }
 
-fn unmade(refusal: u8) -> Made
+fn unmade(refusal: Refusal) -> Made
     ensures { λ m. ⌜ (m .refusal ≡ refusal) × (m .at .0 ≡ 0) ⌝ }
 {
     Made {
@@ -81,33 +83,36 @@ fn write_parent(image: &mut [u8], o: Ref, new: New, d: Ref)
     }
 }
 
-// Both blocks, their data, and their refs in slot `i` of the directory at `d`; 8 where there is no room.
+// Both blocks, their data, and their refs in slot `i` of the directory at `d`; refused where there is no room.
 fn fill(image: &mut [u8], d: Ref, i: usize, name: &[u8], new: New) -> Made
     requires { ⌜ Vacant (now image) (d .0) i (now name) (newOf new) ⌝ }
     ensures { λ m. ⌜ Makes (spec.fillSlot (now (image .entry)) (newOf new) (now (name .entry)) (d .0) i) (m .refusal) (m .at .0) (now (image .exit)) ⌝ }
 {
     let placed = pair::place(image, name.len() as u32, magic_of(new), size_of(new));
     let Pair::At(n, o) = placed else {
-        return unmade(8);
+        return unmade(Refusal::For(Reason::NoRoom));
     };
     access::copy_in(image, n, Pos(0), name);
     write_parent(image, o, new, d);
     crate::slot::set(image, d, i, n, o);
-    Made { refusal: 0, at: o }
+    Made {
+        refusal: Refusal::Accepted,
+        at: o,
+    }
 }
 
-// In the directory at `d`: 6, 7, 8, or made.
+// In the directory at `d`: refused, or made.
 fn make_in(image: &mut [u8], d: Ref, name: &[u8], new: New) -> Made
     requires { ⌜ DirectoryIn (now image) (d .0) × Named (now name) × (spec.allowed (newOf new) ≡ true) ⌝ }
     ensures { λ m. ⌜ Makes (spec.makeIn (now (image .entry)) (newOf new) (now (name .entry)) (d .0)) (m .refusal) (m .at .0) (now (image .exit)) ⌝ }
 {
     let there = slots::with_name(image, d, name);
     let Index::Nowhere = there else {
-        return unmade(6);
+        return unmade(Refusal::For(Reason::Exists));
     };
     let empty = slots::empty(image, d);
     let Index::At(i) = empty else {
-        return unmade(7);
+        return unmade(Refusal::For(Reason::NoSlot));
     };
     fill(image, d, i, name, new)
 }
@@ -116,9 +121,9 @@ fn make_in(image: &mut [u8], d: Ref, name: &[u8], new: New) -> Made
 pub fn make(image: &mut [u8], path: &[u8], new: New) -> Made
     ensures { λ m. ⌜ Makes (spec.make (now (image .entry)) (now (path .entry)) (newOf new)) (m .refusal) (m .at .0) (now (image .exit)) ⌝ }
 {
-    let begun = walk::begin_above(image, path, allowed(new), 6);
+    let begun = walk::begin_above(image, path, allowed(new), Reason::Exists);
     let Start::Reached(d) = begun else {
-        return unmade(walk::number(begun));
+        return unmade(walk::refusal_of(begun));
     };
     make_in(image, d, walk::last_name(path), new)
 }

@@ -1,8 +1,9 @@
 // Remove: a slot emptied, and both its blocks freed.
 
-use crate::format::Done;
 use alloc::block;
 use alloc::release;
+use calls::refusal::Reason;
+use calls::refusal::Refusal;
 use calls::slots;
 use calls::slots::Index;
 use calls::walk;
@@ -43,33 +44,31 @@ fn clear(image: &mut [u8], d: Ref, i: usize)
     release::block(image, object);
 }
 
-// From the directory at `d`: 3, 9, or removed.
-fn remove_in(image: &mut [u8], d: Ref, name: &[u8]) -> Done
+// From the directory at `d`: refused, or removed.
+fn remove_in(image: &mut [u8], d: Ref, name: &[u8]) -> Refusal
     requires { ⌜ DirectoryIn (now image) (d .0) ⌝ }
-    ensures { λ x. ⌜ Changes (spec.removeIn (now (image .entry)) (now (name .entry)) (d .0)) (x .refusal) (now (image .exit)) ⌝ }
+    ensures { λ x. ⌜ Changes (spec.removeIn (now (image .entry)) (now (name .entry)) (d .0)) x (now (image .exit)) ⌝ }
 {
     let found = slots::with_name(image, d, name);
     let Index::At(i) = found else {
-        return Done { refusal: 3 };
+        return Refusal::For(Reason::NotFound);
     };
     let s = fields::slot_at(image, d, i);
     let object = s.object;
     if holds_some(image, object) {
-        return Done { refusal: 9 };
+        return Refusal::For(Reason::NotEmpty);
     }
     clear(image, d, i);
-    Done { refusal: 0 }
+    Refusal::Accepted
 }
 
 // The object that the path names.
-pub fn remove(image: &mut [u8], path: &[u8]) -> Done
-    ensures { λ x. ⌜ Changes (spec.remove (now (image .entry)) (now (path .entry))) (x .refusal) (now (image .exit)) ⌝ }
+pub fn remove(image: &mut [u8], path: &[u8]) -> Refusal
+    ensures { λ x. ⌜ Changes (spec.remove (now (image .entry)) (now (path .entry))) x (now (image .exit)) ⌝ }
 {
-    let begun = walk::begin_above(image, path, true, 11);
+    let begun = walk::begin_above(image, path, true, Reason::IsRoot);
     let Start::Reached(d) = begun else {
-        return Done {
-            refusal: walk::number(begun),
-        };
+        return walk::refusal_of(begun);
     };
     remove_in(image, d, walk::last_name(path))
 }

@@ -1,8 +1,8 @@
-// Damaged images, each with the verdict on it: the lowest-numbered broken rule, and the first block that breaks it. Each image breaks one rule
-// only, but for the name of 65 bytes, which breaks rules 1 and 6. Some undamaged ones stand between them.
+// Damaged images, each with what the exported check answers: 20 + the lowest-numbered broken rule, and the first block that breaks it. Each image
+// breaks one rule only, but for the name of 65 bytes, which breaks rules 1 and 6. Some undamaged ones stand between them.
 
 use show::say;
-use show::say_number;
+use show::say_answer;
 use show::spread;
 ghost use mathlib.Core.Path.{_≡_};
 ghost use lib.ListN.{length};
@@ -11,14 +11,12 @@ mod blocks;
 mod cards;
 mod trees;
 
-// The line of an image: what is wrong with it, the rule and the place.
+// The line of an image: what is wrong with it, the number and the place.
 fn show(text: &[u8], image: &[u8]) {
-    let verdict = tree::verdict::judge(image);
+    let mut place: u64 = 0;
+    let number = sffs1::sffs1_check(image, &mut place);
     say(text);
-    say_number(b": rule ", verdict.rule as u64);
-    if verdict.rule != 0 {
-        say_number(b" at ", verdict.place.0);
-    }
+    say_answer(number, place);
     say(b"\n");
 }
 

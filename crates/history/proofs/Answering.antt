@@ -8,6 +8,8 @@ use lib.ListN.{drop, length, take}
 use Rattle.path.specs.Path.{components}
 use Rattle.alloc.specs.Tiling.{within}
 use Rattle.alloc.specs.Volume.{objects, volumeOf}
+use Rattle.calls.specs.declared.refusal.Reason.the-variants.{OutOfBounds}
+use Rattle.calls.specs.declared.refusal.Refusal.the-variants.{Accepted, For}
 use Rattle.calls.specs.Reading.{Found, blockIn, copied, find, foundAt, kindOf, pointAt, read, readAt, readPoint}
 use Rattle.calls.specs.Walk.{Walk, at, opening, reached, refused, start, walkFrom, walked}
 use Rattle.calls.proofs.Steps.{opening-bounds, opening-none, or-passed, or-refused}
@@ -34,21 +36,21 @@ module _ {n : ℕ} {s : List ℕ} {t : Tree} (g : Good n s t) where
     unfolding start
     begins allowed a e =
         let o = opening-none s p allowed (good-formed n s t g) (way-valid w) a in
-        sym (or-passed (opening s p allowed) (walkFrom s (components p)) o refl)
+        sym (or-passed (opening s p allowed) (walkFrom s (components p)) o refl refl)
         ∙ ap (walkFrom s) (way-components w)
         ∙ ap walked (walk-is (objects (volumeOf s)) (volumeOf s .root) (g .block) (g .node) (g .rep) ws ∙ e)
 
     -- numbers that are not allowed
-    begins-not : (allowed : Bool) → allowed ≡ false → start s p allowed ≡ refused 10
+    begins-not : (allowed : Bool) → allowed ≡ false → start s p allowed ≡ refused (For OutOfBounds)
     unfolding start
     begins-not allowed a =
         sym (or-refused (opening s p allowed) (walkFrom s (components p)) (opening-bounds s p allowed (good-formed n s t g) (way-valid w) a)
-        (λ z. omega arith))
+        refl (λ z. omega arith))
 
     -- ---- find
 
     -- the ref and the kind of what is there
-    finds : {r : ℕ} → whereTo ws ≡ at r → find s p ≡ record { refusal = 0; at = r; kind = kindOf (blockIn s r) }
+    finds : {r : ℕ} → whereTo ws ≡ at r → find s p ≡ record { refusal = Accepted; at = r; kind = kindOf (blockIn s r) }
     unfolding find
     finds e = ap (foundAt s) (begins true refl e)
 

@@ -21,6 +21,8 @@ use Rattle.alloc.proofs.Data.{spliced}
 use Rattle.alloc.proofs.Heads.{volume}
 use Rattle.tree.specs.Fields.{fileSize, isFile, room}
 use Rattle.tree.proofs.Formed.{file-there}
+use Rattle.calls.specs.declared.refusal.Reason.the-variants.{IsDirectory, PastRoom}
+use Rattle.calls.specs.declared.refusal.Refusal.the-variants.{Accepted, For}
 use Rattle.calls.specs.Reading.{blockIn}
 use Rattle.calls.specs.Walk.{lastName, reached, walkFrom}
 use Rattle.changes.specs.Changing.{setLength, setLengthAt, setLengthOf, unchanged, write, writeAt, writeTo}
@@ -35,7 +37,7 @@ use Rattle.history.proofs.LastName.{at-last, last-split}
 use Rattle.history.proofs.Moves.{Has, Move, has-size, updated-move}
 use Rattle.history.proofs.Nodes.{FileNode, aDir, aFile, seek}
 use Rattle.history.proofs.Refs.{refs-once}
-use Rattle.history.proofs.Sighted.{Answered, AnsweredBy, counted-has, good-volume, kept-edited, kept-refused, reached-file, sought-seen, sought-weight}
+use Rattle.history.proofs.Sighted.{Answered, AnsweredBy, counted-has, good-volume, kept-edited, kept-reason, kept-refused, reached-file, sought-seen, sought-weight}
 use Rattle.history.proofs.Sights.{Holder, file-holder}
 use Rattle.history.proofs.Sums.{Item, member-le, sum, this, this-self}
 
@@ -74,7 +76,7 @@ module _ {n : ℕ} {s : List ℕ} {t : Tree} (g : Good n s t) (path : List ℕ) 
       (sums : (h : Item → ℕ) → sum h (objects v) + h (r, b) ≡ sum h (objects (volumeOf s)) + h (r, x)) where
     -- in its directory
     in-holder : (ws : List (List ℕ)) (w : List ℕ) → Holder (seek ws (volumeOf s .root) (g .block) (g .node)) w r b
-        → Answered n t (inDirectory ws (changed w f) t) 0 (image v)
+        → Answered n t (inDirectory ws (changed w f) t) Accepted (image v)
     in-holder ws w h =
         let z = sought-seen g ws (aDir (h .ref) (h .block) (h .row)) (h .found) in
         let p = swap w r b x f y (h .ref) (h .row) (z .1) (h .there) in
@@ -88,17 +90,17 @@ module _ {n : ℕ} {s : List ℕ} {t : Tree} (g : Good n s t) (path : List ℕ) 
         kept-edited g k q (inDirectory ws (changed w f))
         (edited u (g .rep) ws (h .found) (λ i. omega (arith, sums i, p .sums i)) (refs-once v) (omega (arith, p .low, z .2, g .rep .low)))
 
-    pub file-changed : Answered n t (atLast (λ w. changed w f) path t) 0 (image v)
+    pub file-changed : Answered n t (atLast (λ w. changed w f) path t) Accepted (image v)
     file-changed = go (components path) refl
       where
-        go : (ws : List (List ℕ)) → components path ≡ ws → Answered n t (atLast (λ w. changed w f) path t) 0 (image v)
+        go : (ws : List (List ℕ)) → components path ≡ ws → Answered n t (atLast (λ w. changed w f) path t) Accepted (image v)
         go [] c =
             let i : aDir (volumeOf s .root) (g .block) (g .node) ≡ aFile r b = ap (λ (us : List (List ℕ)). seek us (volumeOf s .root) (g .block) (g .node)) (sym c) ∙ e in
             let z : _≡_ {A = ℕ} 0 1 = cc in
             absurd (omega arith)
         go (w ∷ ws) c =
             let i = ap (λ (us : List (List ℕ)). seek us (volumeOf s .root) (g .block) (g .node)) (last-split path w ws c ∙ sym c) ∙ e in
-            subst (λ (t′ : Option Tree). Answered n t t′ 0 (image v)) (sym (at-last path w ws c (λ w. changed w f) t))
+            subst (λ (t′ : Option Tree). Answered n t t′ Accepted (image v)) (sym (at-last path w ws c (λ w. changed w f) t))
             (in-holder (allButLast (w ∷ ws)) (lastName path) (file-holder (lastName path) r b (allButLast (w ∷ ws)) (volumeOf s .root) (g .block) (g .node) i))
 
   -- by a write, and by a set length
@@ -120,52 +122,52 @@ pub write-kept : {n : ℕ} {s : List ℕ} {t : Tree} → Good n s t → (path : 
     → AnsweredBy n t (atLast (λ w. changed w (written position (y ∷ ys))) path t) (write s path position (y ∷ ys))
 unfolding write
 write-kept {n} {s} {t} g path position y ys =
-    start-cases (λ x. AnsweredBy n t t′ (writeAt s position (y ∷ ys) x)) s path true (λ m. kept-refused g t′ m)
-    (λ r v a e. by-kind r e (isFile (blockIn s r)) refl)
+    start-cases (λ x. AnsweredBy n t t′ (writeAt s position (y ∷ ys) x)) s path true (kept-refused g t′)
+    (λ r h v a e. by-kind r e (isFile (blockIn s r)) refl)
   where
     t′ : Option Tree
     t′ = atLast (λ w. changed w (written position (y ∷ ys))) path t
 
     by-room : (r : ℕ) → seek (components path) (volumeOf s .root) (g .block) (g .node) ≡ aFile r (blockIn s r) → (q : Bool)
-        → leb (position + length (y ∷ ys)) (room (blockIn s r)) ≡ q → AnsweredBy n t t′ (cond q (changing.written s r position (y ∷ ys)) (unchanged 12 s))
+        → leb (position + length (y ∷ ys)) (room (blockIn s r)) ≡ q → AnsweredBy n t t′ (cond q (changing.written s r position (y ∷ ys)) (unchanged (For PastRoom) s))
     by-room r e true q = written-kept g path r e position y ys (leb-true _ _ q)
-    by-room r e false q = kept-refused g t′ 11
+    by-room r e false q = kept-reason g t′ PastRoom
 
     by-kind : (r : ℕ) → walkFrom s (components path) ≡ reached r → (q : Bool) → isFile (blockIn s r) ≡ q
-        → AnsweredBy n t t′ (cond q (writeTo s r position (y ∷ ys)) (unchanged 5 s))
+        → AnsweredBy n t t′ (cond q (writeTo s r position (y ∷ ys)) (unchanged (For IsDirectory) s))
     by-kind r e true q = by-room r (reached-file g (components path) r e q) (leb (position + length (y ∷ ys)) (room (blockIn s r))) refl
-    by-kind r e false q = kept-refused g t′ 4
+    by-kind r e false q = kept-reason g t′ IsDirectory
 
 -- no bytes change nothing
 pub write-none : {n : ℕ} {s : List ℕ} {t : Tree} → Good n s t → (path : List ℕ) (position : ℕ) → AnsweredBy n t (some t) (write s path position [])
 unfolding write
 write-none {n} {s} {t} g path position =
-    start-cases (λ x. AnsweredBy n t (some t) (writeAt s position [] x)) s path true (λ m. kept-refused g (some t) m) (λ r v a e. by-kind r (isFile (blockIn s r)))
+    start-cases (λ x. AnsweredBy n t (some t) (writeAt s position [] x)) s path true (kept-refused g (some t)) (λ r h v a e. by-kind r (isFile (blockIn s r)))
   where
-    by-room : (r : ℕ) (q : Bool) → AnsweredBy n t (some t) (cond q (changing.written s r position []) (unchanged 12 s))
+    by-room : (r : ℕ) (q : Bool) → AnsweredBy n t (some t) (cond q (changing.written s r position []) (unchanged (For PastRoom) s))
     by-room r true = (t, refl, g)
-    by-room r false = kept-refused g (some t) 11
+    by-room r false = kept-reason g (some t) PastRoom
 
-    by-kind : (r : ℕ) (q : Bool) → AnsweredBy n t (some t) (cond q (writeTo s r position []) (unchanged 5 s))
+    by-kind : (r : ℕ) (q : Bool) → AnsweredBy n t (some t) (cond q (writeTo s r position []) (unchanged (For IsDirectory) s))
     by-kind r true = by-room r (leb (position + length {A = ℕ} []) (room (blockIn s r)))
-    by-kind r false = kept-refused g (some t) 4
+    by-kind r false = kept-reason g (some t) IsDirectory
 
 pub length-kept : {n : ℕ} {s : List ℕ} {t : Tree} → Good n s t → (path : List ℕ) (size : ℕ)
     → AnsweredBy n t (atLast (λ w. changed w (resized size)) path t) (setLength s path size)
 unfolding setLength
 length-kept {n} {s} {t} g path size =
-    start-cases (λ x. AnsweredBy n t t′ (setLengthAt s size x)) s path true (λ m. kept-refused g t′ m)
-    (λ r v a e. by-kind r e (isFile (blockIn s r)) refl)
+    start-cases (λ x. AnsweredBy n t t′ (setLengthAt s size x)) s path true (kept-refused g t′)
+    (λ r h v a e. by-kind r e (isFile (blockIn s r)) refl)
   where
     t′ : Option Tree
     t′ = atLast (λ w. changed w (resized size)) path t
 
     by-room : (r : ℕ) → seek (components path) (volumeOf s .root) (g .block) (g .node) ≡ aFile r (blockIn s r) → (q : Bool)
-        → leb size (room (blockIn s r)) ≡ q → AnsweredBy n t t′ (cond q (changing.resized s r size) (unchanged 12 s))
+        → leb size (room (blockIn s r)) ≡ q → AnsweredBy n t t′ (cond q (changing.resized s r size) (unchanged (For PastRoom) s))
     by-room r e true q = resized-kept g path r e size (leb-true _ _ q)
-    by-room r e false q = kept-refused g t′ 11
+    by-room r e false q = kept-reason g t′ PastRoom
 
     by-kind : (r : ℕ) → walkFrom s (components path) ≡ reached r → (q : Bool) → isFile (blockIn s r) ≡ q
-        → AnsweredBy n t t′ (cond q (setLengthOf s r size) (unchanged 5 s))
+        → AnsweredBy n t t′ (cond q (setLengthOf s r size) (unchanged (For IsDirectory) s))
     by-kind r e true q = by-room r (reached-file g (components path) r e q) (leb size (room (blockIn s r))) refl
-    by-kind r e false q = kept-refused g t′ 4
+    by-kind r e false q = kept-reason g t′ IsDirectory

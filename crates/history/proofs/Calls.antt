@@ -1,13 +1,13 @@
 -- Every call keeps an image good, and so does every history.
 use Rattle.changes.specs.Changing as changing
+use Rattle.calls.specs.Refusal as refusal
+use Rattle.calls.specs.Refusal.{accepted}
 use Rattle.calls.specs.Reading as reading
 use Prim.Native.Nat.{ℕ}
 use mathlib.Core.Bool.{Bool, cond, false, true}
 use mathlib.Core.List.{List, [], _∷_}
 use mathlib.Core.Option.{Option, some}
 use mathlib.Core.Path.{_≡_, refl, subst, sym}
-use lib.Dec.{eqb}
-use borrow.Author.Tests.{eqb-true}
 use Rattle.history.specs.Listing.{list}
 use Rattle.history.specs.Book.{Tree, emptySlots}
 use Rattle.history.specs.History.{Call, booked, check, find, format, history, listing, make, read, readPoint, remove, setLength, step, write}
@@ -28,29 +28,29 @@ unchanging {n} {s} {t} g false = (t, refl, g)
 
 -- format, accepted or refused
 format-kept : {n : ℕ} {s : List ℕ} {t : Tree} → Good n s t → (k : ℕ)
-    → Left n (changing.format s k .image) (cond (eqb (changing.format s k .refusal) 0) (some (emptySlots k)) (some t))
-format-kept {n} {s} {t} g k = go (eqb (changing.format s k .refusal) 0) refl
+    → Left n (changing.format s k .image) (cond (accepted (changing.format s k .refusal)) (some (emptySlots k)) (some t))
+format-kept {n} {s} {t} g k = go (accepted (changing.format s k .refusal)) refl
   where
-    go : (q : Bool) → eqb (changing.format s k .refusal) 0 ≡ q → Left n (changing.format s k .image) (cond q (some (emptySlots k)) (some t))
+    go : (q : Bool) → accepted (changing.format s k .refusal) ≡ q → Left n (changing.format s k .image) (cond q (some (emptySlots k)) (some t))
     go true e =
-        let f = formatted-good s k (eqb-true (changing.format s k .refusal) 0 e) in
+        let f = formatted-good s k e in
         (emptySlots k, refl, subst (λ (m : ℕ). Good m (changing.format s k .image) (emptySlots k)) (g .long) f)
     go false e = (t, refl, subst (λ (u : List ℕ). Good n u t) (sym (format-same s k e)) g)
 
 -- one call
-pub kept : (n : ℕ) (s : List ℕ) (t : Tree) (c : Call) → Good n s t → Left n (step s c .image) (cond (step s c .accepted) (booked t c) (some t))
+pub kept : (n : ℕ) (s : List ℕ) (t : Tree) (c : Call) → Good n s t → Left n (step s c .image) (cond (accepted (step s c .refusal)) (booked t c) (some t))
 unfolding step booked
 kept n s t (format k) g = format-kept g k
-kept n s t check g = unchanging g (eqb (reading.check s) 0)
-kept n s t (find p) g = unchanging g (eqb (reading.find s p .refusal) 0)
+kept n s t check g = unchanging g (accepted (refusal.check s))
+kept n s t (find p) g = unchanging g (accepted (reading.find s p .refusal))
 kept n s t (make p new) g = make-kept g p new
-kept n s t (read p position buffer) g = unchanging g (eqb (reading.read s p position buffer .refusal) 0)
-kept n s t (readPoint p m) g = unchanging g (eqb (reading.readPoint s p m .refusal) 0)
+kept n s t (read p position buffer) g = unchanging g (accepted (reading.read s p position buffer .refusal))
+kept n s t (readPoint p m) g = unchanging g (accepted (reading.readPoint s p m .refusal))
 kept n s t (write p position []) g = write-none g p position
 kept n s t (write p position (y ∷ ys)) g = write-kept g p position y ys
 kept n s t (setLength p m) g = length-kept g p m
 kept n s t (remove p) g = remove-kept g p
-kept n s t (listing lent) g = unchanging g (eqb (list s lent .refusal) 0)
+kept n s t (listing lent) g = unchanging g (accepted (list s lent .refusal))
 
 -- a list of calls
 pub kept-all : (n : ℕ) (s : List ℕ) (t : Tree) (cs : List Call) → Good n s t

@@ -11,6 +11,8 @@ use lib.Seq.{take-append-seam}
 use borrow.Author.Tests.{le-leb, leb-false, leb-true, lt-leb}
 use Rattle.storage.specs.Bytes.{u64At}
 use Rattle.alloc.specs.Volume.{Objects, objects, volumeOf}
+use Rattle.calls.specs.declared.refusal.Reason.the-variants.{TooFewLines}
+use Rattle.calls.specs.declared.refusal.Refusal.the-variants.{Accepted, For}
 use Rattle.history.specs.Listing.{Line, Listed, linesOf, list, objectLines}
 use Rattle.history.specs.Book.{Tree}
 use Rattle.history.specs.Claim.{Claim, Each, both, chainFrom, entries, lineOwners, neither, owned, ownerAt, owners}
@@ -70,11 +72,11 @@ module _ (n : ℕ) (s : List ℕ) (t : Tree) (g : Good n s t) where
   module _ (lent : List Line) where
     -- lent enough lines, or one too few
     listed-long : length (entries t) ≤ length lent
-        → list s lent ≡ record { refusal = 0; count = length lines; lines = lines ++ drop (length lines) lent }
+        → list s lent ≡ record { refusal = Accepted; count = length lines; lines = lines ++ drop (length lines) lent }
     unfolding list
     listed-long h = rw (list, good-formed n s t g, le-leb (length lines) (length lent) (omega (arith, as-many)))
 
-    listed-short : length lent < length (entries t) → list s lent ≡ record { refusal = 14; count = length lines; lines = lent }
+    listed-short : length lent < length (entries t) → list s lent ≡ record { refusal = For TooFewLines; count = length lines; lines = lent }
     unfolding list
     listed-short h = rw (list, good-formed n s t g, lt-leb (length lines) (length lent) (omega (arith, as-many)))
 

@@ -2,9 +2,9 @@
 use Prim.Native.Nat.{_*_, _+_, _-_, _/_, _≤_, suc, zero, ℕ}
 use mathlib.Core.Bool.{Bool, false, true, true≢false}
 use mathlib.Core.List.{List}
-use mathlib.Core.Path.{_≡_, ap, refl, subst, sym}
+use mathlib.Core.Path.{_∙_, _≡_, ap, refl, subst, sym}
 use native.Mathlib.Omega.{arith}
-use lib.Dec.{eqb, leb}
+use lib.Dec.{leb}
 use lib.ListN.{length}
 use borrow.Author.Tests.{leb-true}
 use Rattle.alloc.specs.Block.{units}
@@ -16,6 +16,9 @@ use Rattle.alloc.proofs.Changes.{placed-sound}
 use Rattle.alloc.proofs.Creating.{empty-placed, empty-sound}
 use Rattle.alloc.proofs.Cuts.{length-parts}
 use Rattle.alloc.proofs.Soundness.{image-length, image-sound, image-volume}
+use Rattle.calls.specs.declared.refusal.Reason.the-variants.{BadLength, NoRoom, OutOfBounds}
+use Rattle.calls.specs.declared.refusal.Refusal.the-variants.{For}
+use Rattle.calls.specs.Refusal.{accepted}
 use Rattle.changes.specs.Changing.{Outcome, directory, done, format, formatted, newDirectory, unchanged}
 use Rattle.history.specs.Book.{emptySlots}
 use Rattle.history.proofs.EmptyRow.{empty-book, empty-height, empty-stands, empty-sum, emptyRow}
@@ -41,42 +44,42 @@ formatted-sum f n k = go (n / 16 - 2 - units (newDirectory 2 k))
     go (suc u) = omega arith
 
 -- the tests of an accepted format
-record Accepted (s : List ℕ) (k : ℕ) : Type 0 where
+record Passed (s : List ℕ) (k : ℕ) : Type 0 where
   length-so : lengthAllowed (length s) ≡ true
   slots-so : within 1 1024 k ≡ true
   room-so : 32 + 16 * units (newDirectory 2 k) ≤ length s
   image-so : format s k .image ≡ image (formatted (length s) k)
 
 -- format, by its tests
-abbrev byTests : List ℕ → ℕ → Bool → Bool → Bool → Outcome
+abbrev pub byTests : List ℕ → ℕ → Bool → Bool → Bool → Outcome
 byTests s k x y z = elim x [
-  | false ↦ unchanged 1 s
-  | true ↦ elim y [ false ↦ unchanged 10 s | true ↦ elim z [ false ↦ unchanged 8 s | true ↦ done (formatted (length s) k) ] ]
+  | false ↦ unchanged (For BadLength) s
+  | true ↦ elim y [ false ↦ unchanged (For OutOfBounds) s | true ↦ elim z [ false ↦ unchanged (For NoRoom) s | true ↦ done (formatted (length s) k) ] ]
 ]
 
-format-is : (s : List ℕ) (k : ℕ) → format s k ≡ byTests s k (lengthAllowed (length s)) (within 1 1024 k) (leb (32 + 16 * units (newDirectory 2 k)) (length s))
+pub format-is : (s : List ℕ) (k : ℕ) → format s k ≡ byTests s k (lengthAllowed (length s)) (within 1 1024 k) (leb (32 + 16 * units (newDirectory 2 k)) (length s))
 unfolding format
 format-is s k = refl
 
-accepted : (s : List ℕ) (k : ℕ) → format s k .refusal ≡ 0 → Accepted s k
-accepted s k h =
+passed : (s : List ℕ) (k : ℕ) → accepted (format s k .refusal) ≡ true → Passed s k
+passed s k h =
     go (lengthAllowed (length s)) (within 1 1024 k) (leb (32 + 16 * units (newDirectory 2 k)) (length s)) refl refl refl (format-is s k)
   where
     go : (x y z : Bool) → lengthAllowed (length s) ≡ x → within 1 1024 k ≡ y → leb (32 + 16 * units (newDirectory 2 k)) (length s) ≡ z
-        → format s k ≡ byTests s k x y z → Accepted s k
+        → format s k ≡ byTests s k x y z → Passed s k
     go true true true a b c e = record { length-so = a; slots-so = b; room-so = leb-true _ _ c; image-so = ap (λ (o : Outcome). o .image) e }
-    go true true false a b c e = absurd (omega (arith, ap (λ (o : Outcome). o .refusal) e))
-    go true false z a b c e = absurd (omega (arith, ap (λ (o : Outcome). o .refusal) e))
-    go false y z a b c e = absurd (omega (arith, ap (λ (o : Outcome). o .refusal) e))
+    go true true false a b c e = absurd (true≢false (sym h ∙ ap (λ (o : Outcome). accepted (o .refusal)) e))
+    go true false z a b c e = absurd (true≢false (sym h ∙ ap (λ (o : Outcome). accepted (o .refusal)) e))
+    go false y z a b c e = absurd (true≢false (sym h ∙ ap (λ (o : Outcome). accepted (o .refusal)) e))
 
 formatted-root : (n k : ℕ) → formatted n k .root ≡ 2
 unfolding formatted
 formatted-root n k = refl
 
 -- so the image holds the book
-pub formatted-good : (s : List ℕ) (k : ℕ) → format s k .refusal ≡ 0 → Good (length s) (format s k .image) (emptySlots k)
+pub formatted-good : (s : List ℕ) (k : ℕ) → accepted (format s k .refusal) ≡ true → Good (length s) (format s k .image) (emptySlots k)
 formatted-good s k h =
-    let a = accepted s k h in
+    let a = passed s k h in
     let n : ℕ = length s in
     let v = formatted-sound n k (a .length-so) (a .slots-so) (a .room-so) in
     let r : Rep (objects (formatted n k)) 2 (newDirectory 2 k) (emptyRow k) = record {
@@ -97,11 +100,11 @@ formatted-good s k h =
     })
 
 -- a refused format changes nothing
-pub format-same : (s : List ℕ) (k : ℕ) → eqb (format s k .refusal) 0 ≡ false → format s k .image ≡ s
-format-same s k = subst (λ (o : Outcome). eqb (o .refusal) 0 ≡ false → o .image ≡ s) (sym (format-is s k))
+pub format-same : (s : List ℕ) (k : ℕ) → accepted (format s k .refusal) ≡ false → format s k .image ≡ s
+format-same s k = subst (λ (o : Outcome). accepted (o .refusal) ≡ false → o .image ≡ s) (sym (format-is s k))
     (go (lengthAllowed (length s)) (within 1 1024 k) (leb (32 + 16 * units (newDirectory 2 k)) (length s)))
   where
-    go : (x y z : Bool) → eqb (byTests s k x y z .refusal) 0 ≡ false → byTests s k x y z .image ≡ s
+    go : (x y z : Bool) → accepted (byTests s k x y z .refusal) ≡ false → byTests s k x y z .image ≡ s
     go false y z e = refl
     go true false z e = refl
     go true true false e = refl

@@ -40,3 +40,4 @@ pub mod FormatStep
 pub mod Calls
 pub mod Whole
 pub mod Demand
+pub mod Telling

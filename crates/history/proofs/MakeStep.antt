@@ -17,6 +17,8 @@ use Rattle.alloc.specs.Sound.{SoundExtent, SoundVolume}
 use Rattle.alloc.specs.Volume.{Volume, allocated, image, objects, volumeOf}
 use Rattle.alloc.proofs.Heads.{volume}
 use Rattle.tree.proofs.Formed.{dir-there}
+use Rattle.calls.specs.declared.refusal.Reason.the-variants.{Exists, NoRoom, NoSlot}
+use Rattle.calls.specs.declared.refusal.Refusal.the-variants.{Accepted, For}
 use Rattle.calls.specs.Reading.{blockIn}
 use Rattle.calls.specs.Walk.{emptySlot, lastName, slotNamed}
 use Rattle.changes.specs.Changing.{Made, New, allowed, fillSlot, make, makeAt, makeIn, newBlock, newName, setSlot, unmade, withRoot}
@@ -32,7 +34,7 @@ use Rattle.history.proofs.Moves.{Has, Move, pair-move, ref-within, upda
 use Rattle.history.proofs.NewBlocks.{block-sound, name-sound, new-node}
 use Rattle.history.proofs.Nodes.{Among, NameNode, Node, aDir, height, named, seek}
 use Rattle.history.proofs.Refs.{refs-once}
-use Rattle.history.proofs.Sighted.{Answered, counted-has, good-volume, kept-edited, kept-refused, reached-directory, sought-seen, sought-weight}
+use Rattle.history.proofs.Sighted.{Answered, counted-has, good-volume, kept-edited, kept-reason, kept-refused, reached-directory, sought-seen, sought-weight}
 use Rattle.history.proofs.Sights.{Seen}
 use Rattle.history.proofs.Sums.{here, sum-this-le, this}
 use Rattle.history.proofs.Walks.{empty-row, indexEmpty, named-row, total-row}
@@ -80,7 +82,7 @@ module _ {n : ℕ} {s : List ℕ} {t : Tree} (g : Good n s t) (new : New) (bound
 
   -- room was found
   filled : (i : ℕ) → indexEmpty c ≡ some i → named w c ≡ false → (x : PlacedPair) → placePair (newName w) (newBlock new d) (volumeOf s .extents) ≡ some x
-      → Answered n t after 0 (image (withRoot s (setSlot d i (x .name) (x .object) (x .extents))))
+      → Answered n t after Accepted (image (withRoot s (setSlot d i (x .name) (x .object) (x .extents))))
   filled i ie nw x q =
       let k = good-volume g in
       let sa = name-sound w valid in
@@ -109,13 +111,13 @@ module _ {n : ℕ} {s : List ℕ} {t : Tree} (g : Good n s t) (new : New) (bound
     where
       go : (o : Option PlacedPair) → placePair (newName w) (newBlock new d) (volumeOf s .extents) ≡ o
           → AnsweredMade n t after (elim o [
-            | none ↦ unmade 8 s
-            | some x ↦ record { refusal = 0; at = x .object; image = image (withRoot s (setSlot d i (x .name) (x .object) (x .extents))) }
+            | none ↦ unmade (For NoRoom) s
+            | some x ↦ record { refusal = Accepted; at = x .object; image = image (withRoot s (setSlot d i (x .name) (x .object) (x .extents))) }
           ])
-      go none q = kept-refused g after 7
+      go none q = kept-reason g after NoRoom
       go (some x) q = filled i ie nw x q
 
-  -- 6 and 7, or the lowest empty slot
+  -- refused, or the lowest empty slot
   make-in : AnsweredMade n t after (makeIn s new w d)
   unfolding makeIn
   make-in = by-name (slotNamed (objects (volumeOf s)) (blockIn s d) w) refl
@@ -123,13 +125,13 @@ module _ {n : ℕ} {s : List ℕ} {t : Tree} (g : Good n s t) (new : New) (bound
       among : Among (objects (volumeOf s)) c
       among f = omega (arith, sought-weight g ws (aDir d (blockIn s d) c) e f)
 
-      by-slot : named w c ≡ false → (o : Option ℕ) → emptySlot (blockIn s d) ≡ o → AnsweredMade n t after (elim o [ none ↦ unmade 7 s | some i ↦ fillSlot s new w d i ])
-      by-slot nw none q = kept-refused g after 6
+      by-slot : named w c ≡ false → (o : Option ℕ) → emptySlot (blockIn s d) ≡ o → AnsweredMade n t after (elim o [ none ↦ unmade (For NoSlot) s | some i ↦ fillSlot s new w d i ])
+      by-slot nw none q = kept-reason g after NoSlot
       by-slot nw (some i) q = fill-kept i (sym (empty-row d (seen .0 .0) (blockIn s d) c (seen .0 .1) (seen .1)) ∙ q) nw
 
       by-name : (o : Option ℕ) → slotNamed (objects (volumeOf s)) (blockIn s d) w ≡ o
-          → AnsweredMade n t after (elim o [ some i ↦ unmade 6 s | none ↦ elim (emptySlot (blockIn s d)) [ none ↦ unmade 7 s | some i ↦ fillSlot s new w d i ] ])
-      by-name (some i) q = kept-refused g after 5
+          → AnsweredMade n t after (elim o [ some i ↦ unmade (For Exists) s | none ↦ elim (emptySlot (blockIn s d)) [ none ↦ unmade (For NoSlot) s | some i ↦ fillSlot s new w d i ] ])
+      by-name (some i) q = kept-reason g after Exists
       by-name none q =
           let r = named-row (objects (volumeOf s)) (g .rep .once) w d (seen .0 .0) (blockIn s d) c (seen .0 .1) (seen .1) among in
           by-slot (not-named w c (sym r ∙ q)) (emptySlot (blockIn s d)) refl
@@ -140,9 +142,9 @@ pub make-kept : {n : ℕ} {s : List ℕ} {t : Tree} → Good n s t → (path : L
     → AnsweredMade n t (atLast (λ w. added w new) path t) (make s path new)
 unfolding make
 make-kept {n} {s} {t} g path new =
-    above-cases (λ x. AnsweredMade n t (atLast (λ w. added w new) path t) (makeAt s new (lastName path) x)) s path (allowed new) 5
-    (λ m. kept-refused g (atLast (λ w. added w new) path t) m)
-    (λ d v a w ws c e k.
+    above-cases (λ x. AnsweredMade n t (atLast (λ w. added w new) path t) (makeAt s new (lastName path) x)) s path (allowed new)
+    (kept-refused g (atLast (λ w. added w new) path t)) Exists
+    (λ d h v a w ws c e k.
     let y = reached-directory g (allButLast (w ∷ ws)) d e k in
     subst (λ (t′ : Option Tree). AnsweredMade n t t′ (makeIn s new (lastName path) d)) (sym (at-last path w ws c (λ w. added w new) t))
     (make-in g new a (lastName path) (last-name path w ws c v) (allButLast (w ∷ ws)) (before-few path w ws c v) d (y .0) (y .1)))

@@ -18,6 +18,8 @@ use Rattle.alloc.specs.Volume.{Volume, image, objects, volumeOf}
 use Rattle.alloc.proofs.Heads.{volume}
 use Rattle.tree.specs.Fields.{Slot, slotAt, slots, takenCount, total}
 use Rattle.tree.proofs.Formed.{dir-there, name-there}
+use Rattle.calls.specs.declared.refusal.Reason.the-variants.{IsRoot, NotEmpty, NotFound}
+use Rattle.calls.specs.declared.refusal.Refusal.the-variants.{Accepted, For}
 use Rattle.calls.specs.Reading.{blockIn}
 use Rattle.calls.specs.Walk.{lastName, slotNamed}
 use Rattle.changes.specs.Changing.{done, remove, removeAt, removeIn, removed, setSlot, unchanged, withRoot}
@@ -32,7 +34,7 @@ use Rattle.history.proofs.Moves.{Has, Move, has-block, released-move, u
 use Rattle.history.proofs.Nodes.{Node, aDir, height, seek, sumOf}
 use Rattle.history.proofs.Refs.{refs-once}
 use Rattle.history.proofs.RemoveEdit.{Held, Out, take-out, untaken-sum}
-use Rattle.history.proofs.Sighted.{Answered, AnsweredBy, counted-has, good-volume, kept-edited, kept-refused, reached-directory, sought-seen, sought-weight}
+use Rattle.history.proofs.Sighted.{Answered, AnsweredBy, counted-has, good-volume, kept-edited, kept-reason, kept-refused, reached-directory, sought-seen, sought-weight}
 use Rattle.history.proofs.Sights.{Seen}
 use Rattle.history.proofs.Sums.{Item, sum, this, this-self}
 use Rattle.history.proofs.Walks.{named-row, slot-row, total-row}
@@ -91,7 +93,7 @@ module _ {n : ℕ} {s : List ℕ} {t : Tree} (g : Good n s t) (w : List ℕ)
         (ap takenCount (sym (x .below-slots)) ∙ ap (λ (b : Block). takenCount (slots b)) (sym object-is) ∙ ap (λ (y : Slot). takenCount (slots (blockIn s (y .1)))) (sym slot-is) ∙ z)
 
     -- it is gone
-    cut : takenCount (slots (blockIn s (slotAt (blockIn s d) i .1))) ≡ 0 → Answered n t after 0 (image (removed s d i))
+    cut : takenCount (slots (blockIn s (slotAt (blockIn s d) i .1))) ≡ 0 → Answered n t after Accepted (image (removed s d i))
     cut z =
         let m = removed-move (good-volume g) has (x .label) (x .block) (name-there (x .label) (x .named-so .isName)) (x .real) (x .name) (x .ref) i (omega (arith, long))
         (λ f. omega (arith, all f, o .sums f)) in
@@ -102,26 +104,26 @@ module _ {n : ℕ} {s : List ℕ} {t : Tree} (g : Good n s t) (w : List ℕ)
           row-stands = o .stands;
           book = o .book;
         } in
-        subst (λ (r : Slot). Answered n t after 0 (image (withRoot s (released (r .1) (released (r .0) (setSlot d i 0 0 (volumeOf s .extents))))))) (sym slot-is)
+        subst (λ (r : Slot). Answered n t after Accepted (image (withRoot s (released (r .1) (released (r .0) (setSlot d i 0 0 (volumeOf s .extents))))))) (sym slot-is)
         (kept-edited g (m .sound) refl (inDirectory ws (emptied w))
         (edited y (g .rep) ws e (λ f. omega (arith, m .sums f, o .sums f, bare z f)) (refs-once _) (omega (arith, o .low, seen .2, g .rep .low))))
 
-  -- 3 and 9, or gone
+  -- refused, or gone
   remove-in : AnsweredBy n t after (removeIn s w d)
   unfolding removeIn
   remove-in = by-name (slotNamed (objects (volumeOf s)) (blockIn s d) w) refl
     where
       by-count : (i : ℕ) → Out w d c i → (q : Bool) → eqb (takenCount (slots (blockIn s (slotAt (blockIn s d) i .1)))) 0 ≡ q
-          → AnsweredBy n t after (elim q [ false ↦ unchanged 9 s | true ↦ done (removed s d i) ])
-      by-count i o false q = kept-refused g after 8
+          → AnsweredBy n t after (elim q [ false ↦ unchanged (For NotEmpty) s | true ↦ done (removed s d i) ])
+      by-count i o false q = kept-reason g after NotEmpty
       by-count i o true q = cut i o (eqb-true _ 0 q)
 
       by-name : (o : Option ℕ) → slotNamed (objects (volumeOf s)) (blockIn s d) w ≡ o
           → AnsweredBy n t after (elim o [
-            | none ↦ unchanged 3 s
-            | some i ↦ elim (eqb (takenCount (slots (blockIn s (slotAt (blockIn s d) i .1)))) 0) [ false ↦ unchanged 9 s | true ↦ done (removed s d i) ]
+            | none ↦ unchanged (For NotFound) s
+            | some i ↦ elim (eqb (takenCount (slots (blockIn s (slotAt (blockIn s d) i .1)))) 0) [ false ↦ unchanged (For NotEmpty) s | true ↦ done (removed s d i) ]
           ])
-      by-name none q = kept-refused g after 2
+      by-name none q = kept-reason g after NotFound
       by-name (some i) q =
           let r = named-row (objects (volumeOf s)) (g .rep .once) w d (seen .0 .0) (blockIn s d) c (seen .0 .1) (seen .1) (λ f. omega (arith, all f)) in
           by-count i (take-out w d c i (sym r ∙ q) (seen .1)) (eqb (takenCount (slots (blockIn s (slotAt (blockIn s d) i .1)))) 0) refl
@@ -131,9 +133,9 @@ module _ {n : ℕ} {s : List ℕ} {t : Tree} (g : Good n s t) (w : List ℕ)
 pub remove-kept : {n : ℕ} {s : List ℕ} {t : Tree} → Good n s t → (path : List ℕ) → AnsweredBy n t (atLast (λ w. emptied w) path t) (remove s path)
 unfolding remove
 remove-kept {n} {s} {t} g path =
-    above-cases (λ x. AnsweredBy n t (atLast (λ w. emptied w) path t) (removeAt s (lastName path) x)) s path true 10
-    (λ m. kept-refused g (atLast (λ w. emptied w) path t) m)
-    (λ d v a w ws c e k.
+    above-cases (λ x. AnsweredBy n t (atLast (λ w. emptied w) path t) (removeAt s (lastName path) x)) s path true
+    (kept-refused g (atLast (λ w. emptied w) path t)) IsRoot
+    (λ d h v a w ws c e k.
     let y = reached-directory g (allButLast (w ∷ ws)) d e k in
     subst (λ (t′ : Option Tree). AnsweredBy n t t′ (removeIn s (lastName path) d)) (sym (at-last path w ws c (λ w. emptied w) t))
     (remove-in g (lastName path) (allButLast (w ∷ ws)) d (y .0) (y .1)))

@@ -5,9 +5,7 @@ use mathlib.Core.List.{List}
 use mathlib.Core.Option.{Option, some}
 use mathlib.Core.Path.{_∙_, _≡_, ap, refl, subst, sym}
 use native.Mathlib.Omega.{arith}
-use lib.Dec.{eqb}
 use lib.ListN.{length}
-use borrow.Author.Tests.{ne-eqb}
 use Rattle.calls.proofs.Contents.{file-no-dir}
 use Rattle.alloc.specs.Block.{Block}
 use Rattle.alloc.specs.Sound.{SoundVolume}
@@ -15,12 +13,18 @@ use Rattle.alloc.specs.Volume.{Objects, Volume, image, objects, volumeOf}
 use Rattle.alloc.proofs.Soundness.{image-length, image-sound, image-volume}
 use Rattle.tree.specs.Fields.{isDir, isFile}
 use Rattle.tree.proofs.Formed.{dir-there, file-there}
+use Rattle.calls.specs.declared.refusal.Reason.{Reason}
+use Rattle.calls.specs.declared.refusal.Refusal.{Refusal}
+use Rattle.calls.specs.declared.refusal.Refusal.the-variants.{Accepted, For}
+use Rattle.calls.specs.Refusal.{accepted}
 use Rattle.calls.specs.Reading.{blockIn}
 use Rattle.calls.specs.Walk.{reached, walkFrom, walked}
 use Rattle.changes.specs.Changing.{Outcome}
 use Rattle.history.specs.Book.{Tree}
+use Rattle.history.proofs.Beginning.{Refuses, by-reason, refuses}
 use Rattle.history.proofs.Edits.{Edited}
 use Rattle.history.proofs.Good.{Good}
+use Rattle.history.proofs.Holds.{good-formed}
 use Rattle.history.proofs.Moves.{Has, has-block}
 use Rattle.history.proofs.Nodes.{Node, Rep, Sought, aDir, aFile, barred, bookOf, height, nowhere, seek, walkOf}
 use Rattle.history.proofs.Sights.{Seen, seen-seek, weight, weight-seek}
@@ -29,8 +33,8 @@ use Rattle.history.proofs.Walks.{walk-is}
 
 -- ---- the answer m of a call, and the book t′ that it would leave accepted
 
-abbrev pub Answered : ℕ → Tree → Option Tree → ℕ → List ℕ → Type 0
-Answered n t t′ m s = (u : Tree) × (cond (eqb m 0) t′ (some t) ≡ some u) × Good n s u
+abbrev pub Answered : ℕ → Tree → Option Tree → Refusal → List ℕ → Type 0
+Answered n t t′ m s = (u : Tree) × (cond (accepted m) t′ (some t) ≡ some u) × Good n s u
 
 abbrev pub AnsweredBy : ℕ → Tree → Option Tree → Outcome → Type 0
 AnsweredBy n t t′ o = Answered n t t′ (o .refusal) (o .image)
@@ -42,14 +46,17 @@ module _ {n : ℕ} {s : List ℕ} {t : Tree} (g : Good n s t) where
   abbrev root : ℕ
   root = volumeOf s .root
 
-  pub kept-refused : (t′ : Option Tree) (m : ℕ) → Answered n t t′ (suc m) s
-  kept-refused t′ m = (t, ap (λ (q : Bool). cond q t′ (some t)) (ne-eqb (suc m) 0 (λ e. omega arith)), g)
+  pub kept-refused : (t′ : Option Tree) (r : Refusal) → Refuses s r → Answered n t t′ r s
+  kept-refused t′ r e = (t, ap (λ (q : Bool). cond q t′ (some t)) (refuses e), g)
+
+  pub kept-reason : (t′ : Option Tree) (w : Reason) → Answered n t t′ (For w) s
+  kept-reason t′ w = kept-refused t′ (For w) (by-reason (good-formed n s t g) w)
 
   pub good-volume : SoundVolume n (volumeOf s)
   good-volume = subst (λ (m : ℕ). SoundVolume m (volumeOf s)) (g .long) (g .sound .volume)
 
   -- a changed volume, and its tree
-  pub kept-edited : {w : Volume} → SoundVolume n w → w .root ≡ root → (f : Tree → Option Tree) → Edited (objects w) root (f (bookOf (g .node))) → Answered n t (f t) 0 (image w)
+  pub kept-edited : {w : Volume} → SoundVolume n w → w .root ≡ root → (f : Tree → Option Tree) → Edited (objects w) root (f (bookOf (g .node))) → Answered n t (f t) Accepted (image w)
   kept-edited {w} k e f x = (
     bookOf (x .node),
     ap f (sym (g .book)) ∙ x .book,

@@ -11,6 +11,9 @@ use Rattle.alloc.specs.Block.{unitsFor, sizeAt}
 use Rattle.alloc.specs.Tiling.{within}
 use Rattle.tree.specs.Fields.{isName}
 use Rattle.tree.specs.Verdict.{wellFormed}
+use Rattle.calls.specs.declared.refusal.Reason.the-variants.{OutOfBounds, PastEnd, TooFewLines}
+use Rattle.calls.specs.declared.refusal.Refusal.the-variants.{Accepted, For}
+use Rattle.calls.specs.Refusal.{accepted}
 use Rattle.calls.specs.Reading.{blockIn, Kind, file, directory, find, read, copied, Point, noPoint, readPoint}
 use Rattle.changes.specs.Changing as changing
 use Rattle.history.specs.Listing.{Line, list}
@@ -67,7 +70,7 @@ pub record Shows (s : List ℕ) (l : Line) (e : Entry) : Type 0 where
   pub depth : l .depth ≡ e .depth
   pub kind : l .kind ≡ e .kind
   -- the refs that find gives for the object's path and for its directory's
-  pub found : find s (e .path) .refusal ≡ 0
+  pub found : find s (e .path) .refusal ≡ Accepted
   pub ref : find s (e .path) .at ≡ l .ref
   pub parent : find s (e .above) .at ≡ l .parent
   -- the name block at the name ref holds the name; the root has none
@@ -84,8 +87,8 @@ pub data Each {A B : Type 0} (R : A → B → Type 0) : List A → List B → Ty
 abbrev pub pointOn : List ℕ → ℕ → Point
 pointOn x n =
     cond (within 1 4096 n)
-    (cond (leb (16 * n) (length x)) (record { refusal = 0; bytes = take 16 (drop (16 * (n - 1)) x) }) (noPoint 13))
-    (noPoint 10)
+    (cond (leb (16 * n) (length x)) (record { refusal = Accepted; bytes = take 16 (drop (16 * (n - 1)) x) }) (noPoint (For PastEnd)))
+    (noPoint (For OutOfBounds))
 
 -- ---- units and who owns them
 
@@ -121,11 +124,11 @@ owners s ls = ownerAt s 0 ∷ (lineOwners s ls ++ chainFrom s (length s) (u64At 
 
 pub record Claim (s : List ℕ) (t : Tree) : Type 0 where
   -- a listing lent enough lines is accepted, its count is the number of the book's objects, and its lines are these in order and nothing else
-  pub listed : (lent : List Line) → length (entries t) ≤ length lent → list s lent .refusal ≡ 0
+  pub listed : (lent : List Line) → length (entries t) ≤ length lent → list s lent .refusal ≡ Accepted
   pub counted : (lent : List Line) → list s lent .count ≡ length (entries t)
   pub shown : (lent : List Line) → length (entries t) ≤ length lent → Each (Shows s) (take (length (entries t)) (list s lent .lines)) (entries t)
   -- one lent too few is refused
-  pub short : (lent : List Line) → length lent < length (entries t) → list s lent .refusal ≡ 14
+  pub short : (lent : List Line) → length lent < length (entries t) → list s lent .refusal ≡ For TooFewLines
   -- read, from every position with every buffer, and read point, for every number, answer by their rules on the book's bytes
   pub bytes : (e : Entry) → List·Memᴰ e (entries t) → (n m : ℕ) → e .kind ≡ file n m → (position : ℕ) (buffer : List ℕ)
       → read s (e .path) position buffer ≡ copied buffer (take (length buffer) (drop position (e .bytes)))
@@ -155,5 +158,5 @@ EveryHistory =
 -- every history from an accepted format, of bytes of any length and contents
 unfoldable pub FromFormat : Type 0
 FromFormat =
-    (s : List ℕ) (k : ℕ) → changing.format s k .refusal ≡ 0 → (cs : List Call)
+    (s : List ℕ) (k : ℕ) → accepted (changing.format s k .refusal) ≡ true → (cs : List Call)
     → Follows s (history (record { image = changing.format s k .image; book = some (emptySlots k) }) cs)

@@ -1,11 +1,13 @@
 -- A history: a list of calls with any arguments, run on an image, and the book that is fed each call's arguments and whether it was accepted.
 use Prim.Native.Nat.{ℕ}
 use mathlib.Core.List.{List, [], _∷_}
-use mathlib.Core.Bool.{Bool, cond}
+use mathlib.Core.Bool.{cond}
 use mathlib.Core.Option.{Option, none, some}
-use lib.Dec.{eqb}
 use Rattle.path.specs.Path.{components, allButLast}
+use Rattle.calls.specs.declared.refusal.Refusal.{Refusal}
 use Rattle.calls.specs.Walk.{lastName}
+use Rattle.calls.specs.Refusal as refusal
+use Rattle.calls.specs.Refusal.{accepted}
 use Rattle.calls.specs.Reading as reading
 use Rattle.changes.specs.Changing as changing
 use Rattle.changes.specs.Changing.{Outcome, Made, New}
@@ -25,31 +27,31 @@ pub data Call : Type 0 where
   remove : List ℕ → Call
   listing : List Line → Call
 
--- whether the call was accepted, and the image after it
+-- the call's refusal, and the image after it
 pub record Step : Type 0 where
-  pub accepted : Bool
+  pub refusal : Refusal
   pub image : List ℕ
 
-abbrev pub numbered : ℕ → List ℕ → Step
-numbered n s = record { accepted = eqb n 0; image = s }
+abbrev pub answered : Refusal → List ℕ → Step
+answered r s = record { refusal = r; image = s }
 
 abbrev pub changedBy : Outcome → Step
-changedBy o = numbered (o .refusal) (o .image)
+changedBy o = answered (o .refusal) (o .image)
 
 abbrev pub madeBy : Made → Step
-madeBy m = numbered (m .refusal) (m .image)
+madeBy m = answered (m .refusal) (m .image)
 
 unfoldable pub step : List ℕ → Call → Step
 step s (format k) = changedBy (changing.format s k)
-step s check = numbered (reading.check s) s
-step s (find p) = numbered (reading.find s p .refusal) s
+step s check = answered (refusal.check s) s
+step s (find p) = answered (reading.find s p .refusal) s
 step s (make p new) = madeBy (changing.make s p new)
-step s (read p position buffer) = numbered (reading.read s p position buffer .refusal) s
-step s (readPoint p n) = numbered (reading.readPoint s p n .refusal) s
+step s (read p position buffer) = answered (reading.read s p position buffer .refusal) s
+step s (readPoint p n) = answered (reading.readPoint s p n .refusal) s
 step s (write p position bytes) = changedBy (changing.write s p position bytes)
 step s (setLength p n) = changedBy (changing.setLength s p n)
 step s (remove p) = changedBy (changing.remove s p)
-step s (listing lent) = numbered (list s lent .refusal) s
+step s (listing lent) = answered (list s lent .refusal) s
 
 -- a change of the directory that holds the path's last component, by that component; none for the root
 abbrev pub atLast : (List ℕ → Tree → Option Tree) → List ℕ → Tree → Option Tree
@@ -81,7 +83,7 @@ followed (some t) c = booked t c
 -- a refused call changes nothing in the book
 abbrev pub afterCall : After → Call → After
 afterCall a c =
-    record { image = step (a .image) c .image; book = cond (step (a .image) c .accepted) (followed (a .book) c) (a .book) }
+    record { image = step (a .image) c .image; book = cond (accepted (step (a .image) c .refusal)) (followed (a .book) c) (a .book) }
 
 unfoldable pub history : After → List Call → After
 history a [] = a

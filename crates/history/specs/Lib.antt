@@ -3,3 +3,4 @@ pub mod Book
 pub mod History
 pub mod TreeOf
 pub mod Claim
+pub mod Telling

@@ -9,6 +9,10 @@ use Rattle.alloc.specs.Block.{Block}
 use Rattle.alloc.specs.Volume.{Objects, volumeOf, objects, blockAt}
 use Rattle.tree.specs.Fields.{Slot, slots, taken}
 use Rattle.tree.specs.Verdict.{wellFormed}
+use Rattle.calls.specs.declared.refusal.Reason.the-variants.{TooFewLines}
+use Rattle.calls.specs.declared.refusal.Refusal.{Refusal}
+use Rattle.calls.specs.declared.refusal.Refusal.the-variants.{Accepted, For}
+use Rattle.calls.specs.Refusal.{check}
 use Rattle.calls.specs.Reading.{Kind, kindOf}
 
 -- a line: the object's ref, its parent's, its name's (0 for the root), its depth, and its kind with the two numbers
@@ -38,17 +42,17 @@ unfoldable pub linesOf : List ℕ → List Line
 linesOf s = objectLines 16 (objects (volumeOf s)) (volumeOf s .root) (volumeOf s .root) 0 0
 
 pub record Listed : Type 0 where
-  pub refusal : ℕ
+  pub refusal : Refusal
   pub count : ℕ
   pub lines : List Line
 
--- the row of lines as it was lent; 14 where it is too short tells the count needed; lines beyond the count are unchanged
+-- the row of lines as it was lent; where it is too short the count tells how many are needed; lines beyond the count are unchanged
 unfoldable pub list : List ℕ → List Line → Listed
 list s lent =
     elim (wellFormed s) [
-      | false ↦ record { refusal = 1; count = 0; lines = lent }
+      | false ↦ record { refusal = check s; count = 0; lines = lent }
       | true ↦ elim (leb (length (linesOf s)) (length lent)) [
-        | false ↦ record { refusal = 14; count = length (linesOf s); lines = lent }
-        | true ↦ record { refusal = 0; count = length (linesOf s); lines = linesOf s ++ drop (length (linesOf s)) lent }
+        | false ↦ record { refusal = For TooFewLines; count = length (linesOf s); lines = lent }
+        | true ↦ record { refusal = Accepted; count = length (linesOf s); lines = linesOf s ++ drop (length (linesOf s)) lent }
       ]
     ]

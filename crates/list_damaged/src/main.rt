@@ -1,4 +1,4 @@
-// The listing of a card whose free chain is damaged.
+// The listing of a card with two directories, each in the other's slot.
 
 fn main() {
     lister::run();

@@ -1,14 +1,24 @@
 // A card, printed.
 
 use crate::line;
+use calls::refusal;
+use calls::refusal::Refusal;
 use listing::seek;
 use listing::seek::Seen;
 ghost use mathlib.Core.Path.{_≡_};
 ghost use mathlib.Core.Bool.{true};
 ghost use Rattle.tree.specs.Verdict.{wellFormed};
 
-pub fn refuse() {
+// An image that is longer than the program holds.
+pub fn refuse_longer() {
     show::say(b"refused 1\n");
+}
+
+// The number, and the place last.
+fn refuse(r: Refusal) {
+    show::say_number(b"refused ", refusal::number(r) as u64);
+    show::say_number(b" ", refusal::place(r).0);
+    show::say(b"\n");
 }
 
 // Line `i`.
@@ -37,8 +47,9 @@ fn show_lines(image: &[u8])
 
 // The length of the image, its free units, and every line; or the refusal.
 pub fn show(image: &[u8]) {
-    if calls::reading::check(image).refusal != 0 {
-        refuse();
+    let own = calls::check::check(image);
+    if refusal::number(own) != 0 {
+        refuse(own);
         return;
     }
     show::say_number(b"image ", image.len() as u64);

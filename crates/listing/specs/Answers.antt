@@ -8,6 +8,7 @@ use Rattle.storage.specs.declared.Ref.{Ref}
 use Rattle.alloc.specs.Volume.{volumeOf, objects}
 use Rattle.tree.specs.Fields.{total, slotsFrom}
 use Rattle.tree.specs.Verdict.{wellFormed}
+use Rattle.calls.specs.declared.refusal.Refusal.{Refusal}
 use Rattle.calls.specs.declared.reading.Kind as declared-kind
 use Rattle.calls.specs.declared.reading.Kind.the-variants.{File, Directory}
 use Rattle.calls.specs.Answers.{kindIs}
@@ -76,12 +77,12 @@ pub record Fillable (s : List ℕ) (n lent : ℕ) : Type 0 where
   pub formed : 0 < n → wellFormed s ≡ true
   pub there : n ≤ length (linesOf s)
 
--- the numbers of the call, where so many lines are lent
-pub record AnswersFor (s : List ℕ) (n refusal count : ℕ) : Type 0 where
+-- the call's refusal and count, where so many lines are lent
+pub record AnswersFor (s : List ℕ) (n : ℕ) (refusal : Refusal) (count : ℕ) : Type 0 where
   pub answers : (lent : List Line) → length lent ≡ n → (refusal ≡ list s lent .refusal) × (count ≡ list s lent .count)
 
--- the call's answer: its numbers, and the row then
-pub record Lists (a : Listed) (refusal count : ℕ) (lines : List declared-line.Line) : Type 0 where
+-- the call's answer, and the row then
+pub record Lists (a : Listed) (refusal : Refusal) (count : ℕ) (lines : List declared-line.Line) : Type 0 where
   pub refusal-is : refusal ≡ a .refusal
   pub count-is : count ≡ a .count
   pub lines-are : map lineIs lines ≡ a .lines

@@ -4,21 +4,24 @@ use crate::lines::Line;
 use crate::seek;
 use crate::seek::Seen;
 use calls::reading::Kind;
+use calls::refusal;
+use calls::refusal::Reason;
+use calls::refusal::Refusal;
 use storage::Ref;
 ghost use mathlib.Core.Path.{_≡_};
 ghost use mathlib.Core.Bool.{cond, true};
 ghost use mathlib.Core.List.{map};
 ghost use Prim.Native.Nat.{_<_};
-ghost use lib.Dec.{eqb};
 ghost use lib.ListN.{length};
 ghost use Rattle.tree.specs.Verdict.{wellFormed};
+ghost use Rattle.calls.specs.Refusal.{accepted};
 ghost use Rattle.listing.specs.Answers.{lineIs, lineNo, filled, Fillable, AnswersFor, Lists};
 ghost use Rattle.history.specs.Listing as spec;
 ghost use Rattle.history.specs.Listing.{linesOf};
 
-// A number, and how many lines the image has.
+// The refusal, and how many lines the image has.
 pub struct Listed {
-    pub refusal: u8,
+    pub refusal: Refusal,
     pub count: u64,
 }
 
@@ -44,24 +47,32 @@ pub fn line_at(image: &[u8], i: usize) -> Line
 pub fn answer(image: &[u8], lent: usize) -> Listed
     ensures { λ a. ⌜ AnswersFor (now (image .entry)) lent (a .refusal) (a .count) ⌝ }
 {
-    if tree::verdict::judge(image).rule != 0 {
+    let own = calls::check::check(image);
+    if refusal::number(own) != 0 {
         return Listed {
-            refusal: 1,
+            refusal: own,
             count: 0,
         };
     }
     let count = seek::count(image);
     if (lent as u64) < count {
-        return Listed { refusal: 14, count };
+        return Listed {
+            refusal: Refusal::For(Reason::TooFewLines),
+            count,
+        };
     }
-    Listed { refusal: 0, count }
+    Listed {
+        refusal: Refusal::Accepted,
+        count,
+    }
 }
 
 // How many lines are filled: on a refusal none.
 pub fn to_fill(a: Listed) -> usize
-    ensures { λ n. ⌜ n ≡ cond (eqb (a .refusal) 0) (a .count) 0 ⌝ }
+    ensures { λ n. ⌜ n ≡ cond (accepted (a .refusal)) (a .count) 0 ⌝ }
 {
-    if a.refusal != 0 {
+    let r = a.refusal;
+    if refusal::number(r) != 0 {
         return 0;
     }
     a.count as usize

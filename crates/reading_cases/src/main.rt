@@ -5,16 +5,10 @@ use calls::reading::Kind;
 use libc::STDOUT_FILENO;
 use show::say;
 use show::say_number;
+use show::say_path;
+use show::say_refusal;
 
 mod cards;
-
-// The path in quotes, since it may be empty.
-fn say_path(text: &[u8], path: &[u8]) {
-    say(text);
-    say(b"\"");
-    say(path);
-    say(b"\"");
-}
 
 fn wide(b: u8) -> u64 {
     b as u64
@@ -30,10 +24,9 @@ fn say_bytes(bytes: &[u8]) {
 }
 
 fn show_check(text: &[u8], image: &[u8]) {
-    let answer = reading::check(image);
     say(b"check ");
     say(text);
-    say_number(b": ", wide(answer.refusal));
+    say_refusal(calls::check::check(image));
     say(b"\n");
 }
 
@@ -53,7 +46,8 @@ fn say_kind(kind: Kind) {
 fn show_find(image: &[u8], path: &[u8]) {
     let answer = reading::find(image, path);
     say_path(b"find ", path);
-    say_number(b": ", wide(answer.refusal));
+    let refusal = answer.refusal;
+    say_refusal(refusal);
     say_number(b", ref ", answer.at.0);
     let kind = answer.kind;
     say_kind(kind);
@@ -64,7 +58,8 @@ fn show_point(image: &[u8], path: &[u8], number: u64) {
     let answer = reading::read_point(image, path, number);
     say_number(b"point ", number);
     say_path(b" of ", path);
-    say_number(b": ", wide(answer.refusal));
+    let refusal = answer.refusal;
+    say_refusal(refusal);
     say(b", ");
     let bytes = answer.bytes;
     say_bytes(&bytes);
@@ -77,7 +72,8 @@ fn read_into(image: &[u8], path: &[u8], position: u64, buffer: &mut [u8]) {
     say_path(b"read ", path);
     say_number(b" at ", position);
     say_number(b" into ", buffer.len() as u64);
-    say_number(b": ", wide(answer.refusal));
+    let refusal = answer.refusal;
+    say_refusal(refusal);
     say_number(b", count ", answer.count);
     say(b", ");
     say_bytes(buffer);

@@ -1,5 +1,7 @@
 // What the programs share: an image written as words, and lines of text.
 
+use calls::refusal;
+use calls::refusal::Refusal;
 use libc::STDOUT_FILENO;
 use storage::Offset;
 ghost use mathlib.Core.Path.{_≡_};
@@ -39,4 +41,24 @@ pub fn say(text: &[u8]) {
 pub fn say_number(text: &[u8], n: u64) {
     say(text);
     io::print_decimal(STDOUT_FILENO, n);
+}
+
+// A path in quotes, since it may be empty.
+pub fn say_path(text: &[u8], path: &[u8]) {
+    say(text);
+    say(b"\"");
+    say(path);
+    say(b"\"");
+}
+
+// What a call answers: its number, and the place where the image breaks a rule.
+pub fn say_answer(number: u8, place: u64) {
+    say_number(b": ", number as u64);
+    if 20 < number {
+        say_number(b" at ", place);
+    }
+}
+
+pub fn say_refusal(r: Refusal) {
+    say_answer(refusal::number(r), refusal::place(r).0);
 }

@@ -5,6 +5,7 @@ use crate::compare::Bout;
 use crate::coverage::Coverage;
 use crate::model::layout::*;
 use crate::model::list::{show, LINE, LONGEST_SHOWN};
+use crate::model::Refusal;
 
 type Verdict = Result<(), String>;
 type Step<'a> = dyn FnMut(&mut Vec<u8>, &Call) -> Result<Outcome, String> + 'a;
@@ -38,8 +39,12 @@ struct Bench<'a, 'b> {
 }
 
 impl Bench<'_, '_> {
-    /// The call's answer and its out numbers.
+    /// The call's answer, without a place, and its out numbers.
     fn expect(&mut self, call: Call, refusal: u8, numbers: &[u64]) -> Result<Outcome, String> {
+        self.expect_at(call, Refusal::from(refusal), numbers)
+    }
+
+    fn expect_at(&mut self, call: Call, refusal: Refusal, numbers: &[u64]) -> Result<Outcome, String> {
         let found = (self.step)(&mut self.image, &call)?;
         if found.refusal != refusal || found.numbers != numbers {
             return Err(format!("{call}: {} {:?}, not {refusal} {numbers:?}", found.refusal, found.numbers));
@@ -209,7 +214,7 @@ fn shortest(bench: &mut Bench) -> Verdict {
     bench.new_card(64, 2, 8)?;
     for length in [48, 65, 0] {
         bench.new_card(length, 1, 1)?;
-        bench.expect(Call::Check, 1, &[])?;
+        bench.expect(Call::Check, 21, &[])?;
     }
     Ok(())
 }
@@ -275,8 +280,10 @@ fn detached(bench: &mut Bench) -> Verdict {
     bench.image[root_slot..root_slot + 16].fill(0);
     bench.image[8 * UNIT + SLOTS..8 * UNIT + SLOTS + 16].copy_from_slice(&slot);
     put64(&mut bench.image, 5 * UNIT + PARENT, 8);
-    bench.expect(Call::Check, 1, &[])?;
-    bench.find("/", 1, [0; 4])
+    let refusal = Refusal { number: 25, place: 5 };
+    bench.expect_at(Call::Check, refusal, &[])?;
+    bench.expect_at(Call::Find { path: b"/".to_vec() }, refusal, &[0; 4])?;
+    bench.shows("refused 25 5\n")
 }
 
 /// Two holes that fit file and name only if the larger is placed first.
@@ -324,8 +331,8 @@ fn listed(bench: &mut Bench) -> Verdict {
     bench.write("/a/b", 0, b"abc", 0)?;
     bench.lists(&[[2, 2, 0, 0, 1, 1, 2], [10, 2, 12, 1, 1, 1, 1], [5, 10, 9, 2, 0, 3, 40]], 2)?;
     bench.image[0] = 0;
-    bench.lists_none(0, 1, 0)?;
-    bench.lists_none(30, 1, 0)
+    bench.lists_none(0, 21, 0)?;
+    bench.lists_none(30, 21, 0)
 }
 
 /// The same card as text, and what is refused.
@@ -334,8 +341,10 @@ fn shown(bench: &mut Bench) -> Verdict {
     bench.make_file("/heel", 32, 0, 5)?;
     bench.make_directory("/a", 1, 0, 10)?;
     bench.shows("image 256 free 3\n2 d 2/2 /\n5 f 0/32 /heel\n10 d 0/1 /a\n")?;
-    bench.image[0] = 0;
-    bench.shows("refused 1\n")?;
+    bench.image[9 * UNIT] = 0;
+    bench.shows("refused 21 9\n")?;
+    bench.image.truncate(48);
+    bench.shows("refused 21 0\n")?;
     bench.new_card(64, 1, 0)?;
     bench.shows("image 64 free 0\n2 d 0/1 /\n")?;
     bench.new_card(LONGEST_SHOWN, 1, 0)?;

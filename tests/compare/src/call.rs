@@ -1,7 +1,10 @@
 //! A call with its arguments as values, and what comes of it.
 
-use crate::model::{calls, list};
+use crate::model::{calls, list, Refusal};
 use std::fmt;
+
+/// What an accepted call answers.
+pub const DONE: Refusal = Refusal { number: 0, place: 0 };
 
 #[derive(Clone, Debug)]
 pub enum Call {
@@ -33,20 +36,28 @@ pub const CALLS: [&str; 11] = [
     "list",
 ];
 
-/// The answers that each call can give, by `Call::index`.
+/// The answers of a call that meets an image that is not well formed: 20 + the rule.
+pub const BROKEN: [u8; 8] = [21, 22, 23, 24, 25, 26, 27, 28];
+
+/// The answers that each call can give, by `Call::index`; all but format give those of `BROKEN` too.
 pub const ANSWERS: [&[u8]; 11] = [
     &[0, 1, 8, 10],
-    &[0, 1],
-    &[0, 1, 2, 3, 4],
-    &[0, 1, 2, 3, 4, 6, 7, 8, 10],
-    &[0, 1, 2, 3, 4, 6, 7, 8, 10],
-    &[0, 1, 2, 3, 4, 5],
-    &[0, 1, 2, 3, 4, 5, 10, 13],
-    &[0, 1, 2, 3, 4, 5, 12],
-    &[0, 1, 2, 3, 4, 5, 12],
-    &[0, 1, 2, 3, 4, 9, 11],
-    &[0, 1, 14],
+    &[0],
+    &[0, 2, 3, 4],
+    &[0, 2, 3, 4, 6, 7, 8, 10],
+    &[0, 2, 3, 4, 6, 7, 8, 10],
+    &[0, 2, 3, 4, 5],
+    &[0, 2, 3, 4, 5, 10, 13],
+    &[0, 2, 3, 4, 5, 12],
+    &[0, 2, 3, 4, 5, 12],
+    &[0, 2, 3, 4, 9, 11],
+    &[0, 14],
 ];
+
+/// Whether the call can give this answer.
+pub fn can_answer(call: usize, answer: u8) -> bool {
+    ANSWERS[call].contains(&answer) || call != 0 && BROKEN.contains(&answer)
+}
 
 impl Call {
     pub fn index(&self) -> usize {
@@ -88,31 +99,32 @@ impl fmt::Display for Call {
     }
 }
 
-/// The answer's number, its out numbers, and the lent buffer, the point or the lent lines afterwards.
+/// The answer's number and place, its other out numbers, and the lent buffer, the point or the lent lines
+/// afterwards. Number and place of an accepted call are 0.
 #[derive(Clone, PartialEq, Eq, Debug)]
 pub struct Outcome {
-    pub refusal: u8,
+    pub refusal: Refusal,
     pub numbers: Vec<u64>,
     pub buffer: Vec<u8>,
     pub lines: Vec<u64>,
 }
 
 impl Outcome {
-    fn of<T>(result: Result<T, u8>, numbers: Vec<u64>, buffer: Vec<u8>) -> Outcome {
-        Outcome { refusal: result.err().unwrap_or(0), numbers, buffer, lines: Vec::new() }
+    fn of<T>(result: Result<T, Refusal>, numbers: Vec<u64>, buffer: Vec<u8>) -> Outcome {
+        Outcome { refusal: result.err().unwrap_or(DONE), numbers, buffer, lines: Vec::new() }
     }
 
-    fn alone(result: Result<(), u8>) -> Outcome {
+    fn alone(result: Result<(), Refusal>) -> Outcome {
         Outcome::of(result, Vec::new(), Vec::new())
     }
 
-    fn made(result: Result<u64, u8>) -> Outcome {
+    fn made(result: Result<u64, Refusal>) -> Outcome {
         Outcome::of(result, vec![result.unwrap_or(0)], Vec::new())
     }
 
-    fn listed(answer: Result<u64, (u8, u64)>, lines: Vec<u64>) -> Outcome {
+    fn listed(answer: Result<u64, (Refusal, u64)>, lines: Vec<u64>) -> Outcome {
         let (refusal, count) = match answer {
-            Ok(count) => (0, count),
+            Ok(count) => (DONE, count),
             Err(told) => told,
         };
         Outcome { refusal, numbers: vec![count], buffer: Vec::new(), lines }
@@ -122,7 +134,7 @@ impl Outcome {
 /// The call on the model.
 pub fn on_model(image: &mut [u8], call: &Call) -> Outcome {
     match call {
-        Call::Format { slots } => Outcome::alone(calls::format(image, *slots)),
+        Call::Format { slots } => Outcome::alone(calls::format(image, *slots).map_err(Refusal::from)),
         Call::Check => Outcome::alone(calls::check(image)),
         Call::Find { path } => {
             let found = calls::find(image, path);

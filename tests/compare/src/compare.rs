@@ -42,7 +42,7 @@ impl<'a> Bout<'a> {
     }
 
     fn count_list(&mut self, image: &[u8], numbers: usize, wanted: &Outcome) {
-        if wanted.refusal != 1 {
+        if matches!(wanted.refusal.number, 0 | 14) {
             let full = get64(image, FIRST_FREE) == 0;
             self.coverage.count_list(numbers, wanted.numbers[0] as usize, full);
         }
@@ -70,7 +70,7 @@ impl<'a> Bout<'a> {
 
 /// What the model must keep itself: a refusal changes nothing, and no call spoils an image.
 fn misled(before: &[u8], after: &[u8], wanted: &Outcome) -> Option<String> {
-    if wanted.refusal != 0 {
+    if wanted.refusal.number != 0 {
         return unlike("image of the refusing model", after, before);
     }
     let changed = before != after;

@@ -1,10 +1,13 @@
 //! What the histories have met.
 
-use crate::call::{ANSWERS, CALLS};
+use crate::call::{can_answer, BROKEN, CALLS};
 use crate::model::list::LINE;
+use crate::model::Refusal;
 use std::collections::BTreeSet;
 
-const NUMBERS: usize = 15;
+/// Answers but those of `BROKEN`.
+const ANSWERS: [u8; 15] = [0, 1, 2, 3, 4, 5, 6, 7, 8, 9, 10, 11, 12, 13, 14];
+const NUMBERS: usize = 29;
 const SIZES: [usize; 6] = [256, 1024, 4096, 65_536, 1_048_576, usize::MAX];
 
 /// How many lines a listing is lent, against those that it needs.
@@ -13,6 +16,8 @@ const LENT: [&str; 5] = ["none", "too few", "one too few", "just enough", "more"
 #[derive(Default)]
 pub struct Coverage {
     calls: [[u64; NUMBERS]; CALLS.len()],
+    /// Answers with a place that is not 0.
+    placed: u64,
     lengths: BTreeSet<usize>,
     images: [u64; SIZES.len()],
     pub bad_lengths: u64,
@@ -30,8 +35,9 @@ pub struct Coverage {
 }
 
 impl Coverage {
-    pub fn count_call(&mut self, call: usize, answer: u8) {
-        self.calls[call][answer as usize] += 1;
+    pub fn count_call(&mut self, call: usize, answer: Refusal) {
+        self.calls[call][answer.number as usize] += 1;
+        self.placed += u64::from(answer.place != 0);
     }
 
     pub fn count_image(&mut self, length: usize) {
@@ -100,37 +106,45 @@ impl Coverage {
     }
 
     fn print_calls(&self) {
-        print!("{:<15}", "answers");
-        for number in 0..NUMBERS {
-            print!("{number:>8}");
-        }
-        println!();
-        for (call, name) in CALLS.iter().enumerate() {
-            print!("{name:<15}");
-            for number in 0..NUMBERS {
-                print!("{:>8}", self.cell(call, number));
-            }
-            println!();
-        }
-        println!("calls {}", self.calls_in_all());
+        self.print_answers("answers", &ANSWERS);
+        self.print_answers("rule broken", &BROKEN);
+        println!("calls {}, answers with a place {}", self.calls_in_all(), self.placed);
         for missing in self.never_seen() {
             println!("never seen: {missing}");
         }
     }
 
+    /// A table: a row for each call, a column for each number.
+    fn print_answers(&self, title: &str, numbers: &[u8]) {
+        print!("{title:<15}");
+        for number in numbers {
+            print!("{number:>8}");
+        }
+        println!();
+        for (call, name) in CALLS.iter().enumerate() {
+            print!("{name:<15}");
+            for &number in numbers {
+                print!("{:>8}", self.cell(call, number));
+            }
+            println!();
+        }
+    }
+
     /// A count, or a point where the call cannot give this answer.
-    fn cell(&self, call: usize, number: usize) -> String {
-        match self.calls[call][number] {
-            0 if !ANSWERS[call].contains(&(number as u8)) => ".".to_string(),
+    fn cell(&self, call: usize, number: u8) -> String {
+        match self.calls[call][number as usize] {
+            0 if !can_answer(call, number) => ".".to_string(),
             count => count.to_string(),
         }
     }
 
     fn never_seen(&self) -> Vec<String> {
         let mut missing = Vec::new();
-        for (call, answers) in ANSWERS.iter().enumerate() {
-            for &answer in answers.iter().filter(|&&answer| self.calls[call][answer as usize] == 0) {
-                missing.push(format!("{} answering {answer}", CALLS[call]));
+        for (call, name) in CALLS.iter().enumerate() {
+            for number in 0..NUMBERS as u8 {
+                if can_answer(call, number) && self.calls[call][number as usize] == 0 {
+                    missing.push(format!("{name} answering {number}"));
+                }
             }
         }
         missing

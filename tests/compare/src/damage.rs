@@ -9,45 +9,51 @@ use crate::scene::{Scene, Thing};
 
 type Damage = fn(&mut Random, &mut [u8], &Scene, &Blocks) -> Option<()>;
 
-/// Each with its weight. None where the image has nothing to damage so.
-const DAMAGES: [(usize, Damage); 23] = [
-    (6, flip_bits),
-    (3, flip_in_header),
-    (4, change_magic),
-    (6, change_size),
-    (3, fill_padding),
-    (2, second_superblock),
-    (4, change_root),
-    (6, change_slot),
-    (3, halve_slot),
-    (3, double_slot),
-    (3, second_name),
-    (2, empty_slot),
-    (3, change_parent),
-    (6, move_under_itself),
-    (5, move_object),
-    (5, spoil_name),
-    (5, equal_names),
-    (5, change_file_size),
-    (3, fill_reserved),
-    (6, change_chain),
-    (4, split_free),
-    (3, drop_free),
-    (4, stray_block),
+/// Each with its weight and the rule that it is aimed at (0: any). None where there is nothing to damage so.
+const DAMAGES: [(usize, u8, Damage); 23] = [
+    (6, 0, flip_bits),
+    (3, 1, flip_in_header),
+    (4, 1, change_magic),
+    (6, 1, change_size),
+    (3, 1, fill_padding),
+    (2, 1, second_superblock),
+    (4, 2, change_root),
+    (6, 3, change_slot),
+    (3, 3, halve_slot),
+    (3, 4, double_slot),
+    (3, 4, second_name),
+    (2, 4, empty_slot),
+    (3, 4, change_parent),
+    (4, 4, stray_block),
+    (6, 5, move_under_itself),
+    (5, 5, move_object),
+    (5, 6, spoil_name),
+    (5, 6, equal_names),
+    (5, 7, change_file_size),
+    (3, 7, fill_reserved),
+    (6, 8, change_chain),
+    (4, 8, split_free),
+    (3, 8, drop_free),
 ];
 
-/// Damages the image once, now and then twice, or its length.
+/// Damages the image once, now and then twice, or its length. Often more is aimed at the same rule, so that
+/// it has several breakers.
 pub fn damage(random: &mut Random, image: &mut Vec<u8>, scene: &Scene) {
     let Some(blocks) = &scene.blocks else { return };
     if random.percent(5) {
         return change_length(random, image);
     }
-    let weights = DAMAGES.map(|(weight, _)| weight);
+    let weights = DAMAGES.map(|(weight, ..)| weight);
     let mut left = if random.percent(12) { 2 } else { 1 };
     while left > 0 {
-        let (_, damage) = DAMAGES[random.weighted(&weights)];
+        let (_, rule, damage) = DAMAGES[random.weighted(&weights)];
         if damage(random, image, scene, blocks).is_some() {
             left -= 1;
+            let alike: Vec<_> = DAMAGES.iter().filter(|other| other.1 == rule).collect();
+            for _ in 0..random.one(&[0, 0, 0, 1, 3]) {
+                let (.., again) = random.one(&alike);
+                let _ = again(random, image, scene, blocks);
+            }
         }
     }
 }
@@ -288,7 +294,7 @@ fn equal_names(random: &mut Random, image: &mut [u8], scene: &Scene, blocks: &Bl
     let crowded: Vec<&Thing> = scene.directories().into_iter().filter(|thing| thing.taken > 1).collect();
     let directory = random.pick(&crowded)?;
     let taken: Vec<Slot> = slots_of(image, &directory.block).into_iter().filter(Slot::taken).collect();
-    let (one, other) = (random.one(&taken), random.one(&taken));
+    let (one, other) = (random.pick(&taken)?, random.pick(&taken)?);
     if one.at == other.at {
         return None;
     }

@@ -97,14 +97,19 @@ fn deep(random: &mut Random, bout: &mut Bout) -> Verdict {
     let depth = random.one(&[15, 16, 16, 17, 18]);
     let plan = Plan { objects: 24, depth, steep: 92, room: 20, slots: random.one(&[1, 2, 2]), excess: None };
     if depth > 16 {
-        let image = scatter(random, &plan);
-        bout.coverage.count_image(image.len());
-        bout.coverage.count_damaged(broken_rule(&image));
-        return torture(random, bout, &image, &Scene::default(), 8);
+        return (0..6).try_for_each(|_| too_deep(random, bout, &plan));
     }
     let mut image = sound(bout, scatter(random, &plan))?;
     bout.coverage.count_image(image.len());
     live(random, bout, &mut image, 25)
+}
+
+/// An image of this plan, which is deeper than is allowed.
+fn too_deep(random: &mut Random, bout: &mut Bout, plan: &Plan) -> Verdict {
+    let image = scatter(random, plan);
+    bout.coverage.count_image(image.len());
+    bout.coverage.count_damaged(broken_rule(&image));
+    torture(random, bout, &image, &Scene::default(), 3)
 }
 
 /// Images with one thing over a bound of rule 1.

@@ -1,11 +1,12 @@
 //! The store under test, through its C interface. Everything lent stands between guard bytes.
 
 use crate::call::{Call, Outcome};
+use crate::model::Refusal;
 
 #[link(name = "sffs1", kind = "static")]
 extern "C" {
     fn sffs1_format(image: *mut u8, image_len: usize, slots: u64) -> u8;
-    fn sffs1_check(image: *const u8, image_len: usize) -> u8;
+    fn sffs1_check(image: *const u8, image_len: usize, place: *mut u64) -> u8;
     fn sffs1_find(
         image: *const u8,
         image_len: usize,
@@ -15,6 +16,7 @@ extern "C" {
         directory: *mut u8,
         first: *mut u64,
         second: *mut u64,
+        place: *mut u64,
     ) -> u8;
     fn sffs1_make_directory(
         image: *mut u8,
@@ -23,6 +25,7 @@ extern "C" {
         path_len: usize,
         slots: u64,
         reference: *mut u64,
+        place: *mut u64,
     ) -> u8;
     fn sffs1_make_file(
         image: *mut u8,
@@ -31,6 +34,7 @@ extern "C" {
         path_len: usize,
         room: u64,
         reference: *mut u64,
+        place: *mut u64,
     ) -> u8;
     fn sffs1_read(
         image: *const u8,
@@ -41,6 +45,7 @@ extern "C" {
         buffer: *mut u8,
         buffer_len: usize,
         count: *mut u64,
+        place: *mut u64,
     ) -> u8;
     fn sffs1_read_point(
         image: *const u8,
@@ -49,6 +54,7 @@ extern "C" {
         path_len: usize,
         number: u64,
         point: *mut u8,
+        place: *mut u64,
     ) -> u8;
     fn sffs1_write(
         image: *mut u8,
@@ -58,6 +64,7 @@ extern "C" {
         position: u64,
         bytes: *const u8,
         bytes_len: usize,
+        place: *mut u64,
     ) -> u8;
     fn sffs1_set_length(
         image: *mut u8,
@@ -65,14 +72,22 @@ extern "C" {
         path: *const u8,
         path_len: usize,
         length: u64,
+        place: *mut u64,
     ) -> u8;
-    fn sffs1_remove(image: *mut u8, image_len: usize, path: *const u8, path_len: usize) -> u8;
+    fn sffs1_remove(
+        image: *mut u8,
+        image_len: usize,
+        path: *const u8,
+        path_len: usize,
+        place: *mut u64,
+    ) -> u8;
     fn sffs1_list(
         image: *const u8,
         image_len: usize,
         numbers: *mut u64,
         numbers_len: usize,
         count: *mut u64,
+        place: *mut u64,
     ) -> u8;
 }
 
@@ -132,13 +147,48 @@ fn loan(call: &Call) -> Loan {
     }
 }
 
+/// What a call tells beside its answer; each call uses what it needs.
+struct Out {
+    /// A ref or a count.
+    number: u64,
+    directory: u8,
+    first: u64,
+    second: u64,
+    place: u64,
+}
+
+impl Out {
+    fn junk() -> Out {
+        Out { number: JUNK, directory: JUNK as u8, first: JUNK, second: JUNK, place: JUNK }
+    }
+
+    /// The out numbers of this call but the place.
+    fn numbers(&self, call: &Call) -> Vec<u64> {
+        match call {
+            Call::Find { .. } => vec![self.number, self.directory.into(), self.first, self.second],
+            Call::MakeDirectory { .. } | Call::MakeFile { .. } => vec![self.number],
+            Call::Read { .. } | Call::List { .. } => vec![self.number],
+            _ => Vec::new(),
+        }
+    }
+
+    /// The place that the call told; format has none.
+    fn place(&self, call: &Call) -> u64 {
+        match call {
+            Call::Format { .. } => 0,
+            _ => self.place,
+        }
+    }
+}
+
 /// The call on the library: its outcome and the image afterwards, or what it overran.
 pub fn on_library(image: &[u8], call: &Call) -> Result<(Outcome, Vec<u8>), String> {
     let mut card = Lent::new(GUARD, image);
     let mut loan = loan(call);
     let path = loan.path.content().to_vec();
     let lent = loan.buffer.content().to_vec();
-    let (refusal, numbers) = enter(&mut card, &mut loan, call);
+    let mut out = Out::junk();
+    let number = enter(&mut card, &mut loan, &mut out, call);
     if let Some(what) = overrun(&card, &loan) {
         return Err(format!("what stands beside the {what} was changed"));
     }
@@ -153,7 +203,8 @@ pub fn on_library(image: &[u8], call: &Call) -> Result<(Outcome, Vec<u8>), Strin
         buffer.clear();
     }
     let lines = loan.lines.content().to_vec();
-    Ok((Outcome { refusal, numbers, buffer, lines }, card.content().to_vec()))
+    let refusal = Refusal { number, place: out.place(call) };
+    Ok((Outcome { refusal, numbers: out.numbers(call), buffer, lines }, card.content().to_vec()))
 }
 
 /// What has a changed guard.
@@ -167,41 +218,42 @@ fn overrun(card: &Lent<u8>, loan: &Loan) -> Option<&'static str> {
     kept.into_iter().find(|(_, kept)| !kept).map(|(what, _)| what)
 }
 
-/// The refusal and the out numbers.
-fn enter(card: &mut Lent<u8>, loan: &mut Loan, call: &Call) -> (u8, Vec<u64>) {
+/// The call's answer; what else it tells is in `out`.
+fn enter(card: &mut Lent<u8>, loan: &mut Loan, out: &mut Out, call: &Call) -> u8 {
     let (image, length) = (card.pointer(), card.length);
     let (path, path_len) = (loan.path.pointer(), loan.path.length);
     let (buffer, buffer_len) = (loan.buffer.pointer(), loan.buffer.length);
     let (lines, lines_len) = (loan.lines.pointer(), loan.lines.length);
-    let (mut a, mut b, mut c, mut d) = (JUNK, JUNK, JUNK, JUNK as u8);
+    let Out { number, directory, first, second, place } = out;
     // SAFETY: every pointer is to lent bytes or numbers that live through the call, with their true lengths,
     // and none overlap.
-    let refusal = unsafe {
+    unsafe {
         match *call {
             Call::Format { slots } => sffs1_format(image, length, slots),
-            Call::Check => sffs1_check(image, length),
-            Call::Find { .. } => sffs1_find(image, length, path, path_len, &mut a, &mut d, &mut b, &mut c),
+            Call::Check => sffs1_check(image, length, place),
+            Call::Find { .. } => {
+                sffs1_find(image, length, path, path_len, number, directory, first, second, place)
+            }
             Call::MakeDirectory { slots, .. } => {
-                sffs1_make_directory(image, length, path, path_len, slots, &mut a)
+                sffs1_make_directory(image, length, path, path_len, slots, number, place)
             }
-            Call::MakeFile { room, .. } => sffs1_make_file(image, length, path, path_len, room, &mut a),
+            Call::MakeFile { room, .. } => {
+                sffs1_make_file(image, length, path, path_len, room, number, place)
+            }
             Call::Read { position, .. } => {
-                sffs1_read(image, length, path, path_len, position, buffer, buffer_len, &mut a)
+                sffs1_read(image, length, path, path_len, position, buffer, buffer_len, number, place)
             }
-            Call::ReadPoint { number, .. } => sffs1_read_point(image, length, path, path_len, number, buffer),
+            Call::ReadPoint { number, .. } => {
+                sffs1_read_point(image, length, path, path_len, number, buffer, place)
+            }
             Call::Write { position, .. } => {
-                sffs1_write(image, length, path, path_len, position, buffer, buffer_len)
+                sffs1_write(image, length, path, path_len, position, buffer, buffer_len, place)
             }
-            Call::SetLength { length: new, .. } => sffs1_set_length(image, length, path, path_len, new),
-            Call::Remove { .. } => sffs1_remove(image, length, path, path_len),
-            Call::List { .. } => sffs1_list(image, length, lines, lines_len, &mut a),
+            Call::SetLength { length: new, .. } => {
+                sffs1_set_length(image, length, path, path_len, new, place)
+            }
+            Call::Remove { .. } => sffs1_remove(image, length, path, path_len, place),
+            Call::List { .. } => sffs1_list(image, length, lines, lines_len, number, place),
         }
-    };
-    let numbers = match call {
-        Call::Find { .. } => vec![a, d.into(), b, c],
-        Call::MakeDirectory { .. } | Call::MakeFile { .. } => vec![a],
-        Call::Read { .. } | Call::List { .. } => vec![a],
-        _ => Vec::new(),
-    };
-    (refusal, numbers)
+    }
 }

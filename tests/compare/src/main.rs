@@ -7,6 +7,7 @@
 //! With the one argument `show` the model prints the listing of the image that standard input gives.
 
 mod bench;
+mod broken;
 mod call;
 mod compare;
 mod coverage;
@@ -56,9 +57,11 @@ fn run_histories() -> ExitCode {
     let started = Instant::now();
     let mut coverage = Coverage::default();
     let mut failed = 0;
-    if let Err(what) = bench::run(&mut coverage) {
-        println!("worked cases: {what}");
-        failed += 1;
+    for (title, verdict) in [("worked cases", bench::run(&mut coverage)), ("broken images", broken::run())] {
+        if let Err(what) = verdict {
+            println!("{title}: {what}");
+            failed += 1;
+        }
     }
     let worked = failed;
     for seed in first..first.saturating_add(count) {

@@ -5,6 +5,7 @@ use super::layout::*;
 use super::name::components;
 use super::room::{place, release};
 use super::tree::{extent, lookup, slots_of, taken_slots, walk, Entry, Slot};
+use super::Refusal;
 
 #[derive(Clone, Copy, PartialEq, Eq, Debug)]
 pub struct Found {
@@ -16,7 +17,7 @@ pub struct Found {
     pub second: u64,
 }
 
-pub fn check(image: &[u8]) -> Result<(), u8> {
+pub fn check(image: &[u8]) -> Result<(), Refusal> {
     open(image).map(|_| ())
 }
 
@@ -43,7 +44,7 @@ pub fn format(image: &mut [u8], slots: u64) -> Result<(), u8> {
     Ok(())
 }
 
-pub fn find(image: &[u8], path: &[u8]) -> Result<Found, u8> {
+pub fn find(image: &[u8], path: &[u8]) -> Result<Found, Refusal> {
     let blocks = open(image)?;
     let block = walk(image, &blocks, &components(path)?)?.block;
     let (first, second) = extent(image, &block);
@@ -66,28 +67,28 @@ impl Made {
     }
 }
 
-pub fn make_directory(image: &mut [u8], path: &[u8], slots: u64) -> Result<u64, u8> {
+pub fn make_directory(image: &mut [u8], path: &[u8], slots: u64) -> Result<u64, Refusal> {
     let blocks = open(image)?;
     let parts = components(path)?;
     in_bounds(slots, 1, MOST_SLOTS)?;
     make(image, &blocks, &parts, Made::Directory(slots as usize))
 }
 
-pub fn make_file(image: &mut [u8], path: &[u8], room: u64) -> Result<u64, u8> {
+pub fn make_file(image: &mut [u8], path: &[u8], room: u64) -> Result<u64, Refusal> {
     let blocks = open(image)?;
     let parts = components(path)?;
     in_bounds(room, 0, MOST_ROOM)?;
     make(image, &blocks, &parts, Made::File(room as usize))
 }
 
-fn make(image: &mut [u8], blocks: &Blocks, parts: &[&[u8]], made: Made) -> Result<u64, u8> {
+fn make(image: &mut [u8], blocks: &Blocks, parts: &[&[u8]], made: Made) -> Result<u64, Refusal> {
     let (name, before) = parts.split_last().ok_or(6)?;
     let holder = walk(image, blocks, before)?.block;
     if holder.kind == Kind::File {
-        return Err(4);
+        return Err(4.into());
     }
     if lookup(image, blocks, &holder, name).is_some() {
-        return Err(6);
+        return Err(6.into());
     }
     let slot = slots_of(image, &holder).into_iter().find(|slot| !slot.taken()).ok_or(7)?;
     let mut changed = image.to_vec();
@@ -121,7 +122,7 @@ fn place_pair(image: &mut [u8], name: &[u8], size: usize) -> Option<(usize, usiz
 }
 
 /// Copies to the front of the buffer; tells how many bytes.
-pub fn read(image: &[u8], path: &[u8], position: u64, buffer: &mut [u8]) -> Result<u64, u8> {
+pub fn read(image: &[u8], path: &[u8], position: u64, buffer: &mut [u8]) -> Result<u64, Refusal> {
     let blocks = open(image)?;
     let file = file_at(image, &blocks, &components(path)?)?;
     let content = &image[file.at + CONTENT..][..size_of(image, &file)];
@@ -131,23 +132,23 @@ pub fn read(image: &[u8], path: &[u8], position: u64, buffer: &mut [u8]) -> Resu
     Ok(count as u64)
 }
 
-pub fn read_point(image: &[u8], path: &[u8], number: u64) -> Result<[u8; 16], u8> {
+pub fn read_point(image: &[u8], path: &[u8], number: u64) -> Result<[u8; 16], Refusal> {
     let blocks = open(image)?;
     let parts = components(path)?;
     in_bounds(number, 1, LAST_POINT)?;
     let file = file_at(image, &blocks, &parts)?;
     let from = 16 * (number as usize - 1);
     if from + 16 > size_of(image, &file) {
-        return Err(13);
+        return Err(13.into());
     }
     Ok(image[file.at + CONTENT + from..][..16].try_into().unwrap())
 }
 
-pub fn write(image: &mut [u8], path: &[u8], position: u64, bytes: &[u8]) -> Result<(), u8> {
+pub fn write(image: &mut [u8], path: &[u8], position: u64, bytes: &[u8]) -> Result<(), Refusal> {
     let blocks = open(image)?;
     let file = file_at(image, &blocks, &components(path)?)?;
     if u128::from(position) + bytes.len() as u128 > file.room() as u128 {
-        return Err(12);
+        return Err(12.into());
     }
     if bytes.is_empty() {
         return Ok(());
@@ -162,11 +163,11 @@ pub fn write(image: &mut [u8], path: &[u8], position: u64, bytes: &[u8]) -> Resu
     Ok(())
 }
 
-pub fn set_length(image: &mut [u8], path: &[u8], length: u64) -> Result<(), u8> {
+pub fn set_length(image: &mut [u8], path: &[u8], length: u64) -> Result<(), Refusal> {
     let blocks = open(image)?;
     let file = file_at(image, &blocks, &components(path)?)?;
     if length > file.room() as u64 {
-        return Err(12);
+        return Err(12.into());
     }
     let (old, new) = (size_of(image, &file), length as usize);
     image[file.at + CONTENT..][old.min(new)..old.max(new)].fill(0);
@@ -174,15 +175,15 @@ pub fn set_length(image: &mut [u8], path: &[u8], length: u64) -> Result<(), u8> 
     Ok(())
 }
 
-pub fn remove(image: &mut [u8], path: &[u8]) -> Result<(), u8> {
+pub fn remove(image: &mut [u8], path: &[u8]) -> Result<(), Refusal> {
     let blocks = open(image)?;
     let parts = components(path)?;
     if parts.is_empty() {
-        return Err(11);
+        return Err(11.into());
     }
     let Entry { block, slot } = walk(image, &blocks, &parts)?;
     if block.kind == Kind::Directory && taken_slots(image, &block) > 0 {
-        return Err(9);
+        return Err(9.into());
     }
     let Slot { name, at, .. } = slot.unwrap();
     image[at..at + 16].fill(0);
@@ -199,12 +200,12 @@ fn in_bounds(number: u64, least: u64, most: u64) -> Result<(), u8> {
 }
 
 /// The file that the components name; a directory is refusal 5.
-fn file_at(image: &[u8], blocks: &Blocks, parts: &[&[u8]]) -> Result<Block, u8> {
+fn file_at(image: &[u8], blocks: &Blocks, parts: &[&[u8]]) -> Result<Block, Refusal> {
     let block = walk(image, blocks, parts)?.block;
     if block.kind == Kind::File {
         Ok(block)
     } else {
-        Err(5)
+        Err(5.into())
     }
 }
 

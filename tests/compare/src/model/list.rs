@@ -5,6 +5,7 @@ use super::layout::*;
 use super::name::join;
 use super::room::free_chain;
 use super::tree::{extent, objects, Object};
+use super::Refusal;
 
 /// Numbers of a line.
 pub const LINE: usize = 7;
@@ -51,12 +52,12 @@ impl Line {
 
 /// Fills lines from the front of the lent numbers and tells how many; or the refusal, and the count that it
 /// tells: with 14 the lines needed.
-pub fn list(image: &[u8], lent: &mut [u64]) -> Result<u64, (u8, u64)> {
+pub fn list(image: &[u8], lent: &mut [u64]) -> Result<u64, (Refusal, u64)> {
     let blocks = open(image).map_err(|refusal| (refusal, 0))?;
     let objects = objects(image, &blocks);
     let count = objects.len() as u64;
     if lent.len() / LINE < objects.len() {
-        return Err((14, count));
+        return Err((14.into(), count));
     }
     for (object, numbers) in objects.iter().zip(lent.chunks_exact_mut(LINE)) {
         numbers.copy_from_slice(&Line::of(image, object).numbers());
@@ -66,8 +67,10 @@ pub fn list(image: &[u8], lent: &mut [u64]) -> Result<u64, (u8, u64)> {
 
 /// The text that shows a card: its lines, or its refusal.
 pub fn show(card: &[u8]) -> Vec<u8> {
-    let opened = if card.len() > LONGEST_SHOWN { Err(1) } else { open(card) };
-    match opened {
+    if card.len() > LONGEST_SHOWN {
+        return b"refused 1\n".to_vec();
+    }
+    match open(card) {
         Ok(blocks) => text(card, &blocks),
         Err(refusal) => format!("refused {refusal}\n").into_bytes(),
     }

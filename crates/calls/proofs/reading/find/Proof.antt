@@ -10,8 +10,8 @@ use Rattle.calls.proofs.reading.find.Tie as tie
 begin-requires : tie.Need-begin-requires
 begin-requires c κs = search needs
 
-enum-known-n : tie.Need-enum-known-n
-enum-known-n c = search needs
+enum-known-refusal : tie.Need-enum-known-refusal
+enum-known-refusal c = search needs
 
 enum-known-r : tie.Need-enum-known-r
 enum-known-r c = search needs
@@ -20,7 +20,7 @@ kind-at-requires : tie.Need-kind-at-requires
 kind-at-requires c κs = start-object (λ i. c .before .before .before .before .before .shared-slice-known .given i .fits) _ _ _ (sym (ap startOf (c .before .r .given .1)) ∙ c .before .before .before .begin .ensures)
 
 returns : tie.Need-returns
-returns c = find-refused _ _ _ (sym (ap startOf (c .before .n .given .1)) ∙ c .before .before .before .begin .ensures)
+returns c = find-refused _ _ _ (sym (ap startOf (c .before .refusal .given .1)) ∙ c .before .before .before .begin .ensures)
 
 returns-2 : tie.Need-returns-2
 returns-2 c = find-reached _ _ _ _ (sym (ap startOf (c .before .before .r .given .1)) ∙ c .before .before .before .before .begin .ensures) (c .kind-at .ensures)
@@ -28,4 +28,4 @@ returns-2 c = find-reached _ _ _ _ (sym (ap startOf (c .before .before .r .given
 pub find-spec : {M : Type 1} → statement M
 find-spec =
     tie.close
-    (tie.spec begin-requires enum-known-n enum-known-r kind-at-requires returns returns-2)
+    (tie.spec begin-requires enum-known-refusal enum-known-r kind-at-requires returns returns-2)

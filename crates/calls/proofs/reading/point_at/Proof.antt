@@ -23,8 +23,8 @@ returns c =
       bytes-is = c .no-point .ensures .1 ∙ ap (λ (p : Point). p .bytes) (point-none (λ i. c .before .before .before .shared-slice-known .given i .fits) (c .before .before .before .before .pre .0) (c .before .before .read-u64 .ensures) (c .before .before .before .before .args .n) (omega arith));
     }
 
-mul-t11 : tie.Need-mul-t11
-mul-t11 c = search needs
+mul-t13 : tie.Need-mul-t13
+mul-t13 c = search needs
 
 slice-aggregate-copy-out : tie.Need-slice-aggregate-copy-out
 slice-aggregate-copy-out c = search needs
@@ -43,7 +43,7 @@ point-at-spec =
     mul-if1
     no-point-requires
     returns
-    mul-t11
+    mul-t13
     slice-aggregate-copy-out
     copy-out-requires
     returns-2)

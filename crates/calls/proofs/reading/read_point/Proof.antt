@@ -18,14 +18,14 @@ enum-known-begun c = search needs
 enum-told : tie.Need-enum-told
 enum-told c = search needs
 
-number-requires : tie.Need-number-requires
-number-requires c κs = search needs
+refusal-of-requires : tie.Need-refusal-of-requires
+refusal-of-requires c κs = search needs
 
 no-point-requires : tie.Need-no-point-requires
 no-point-requires c κs = search needs
 
 returns : tie.Need-returns
-returns c = point-refused _ _ _ _ (refused-so (startOf (c .before .before .before .before .begin .result)) (c .before .before .before .before .begin .ensures) (not-reached (c .before .before .before .before .begin .result) (c .before .before .before .match .keys2)) _ (c .before .number .ensures)) _ _ (c .no-point .ensures .0) (c .no-point .ensures .1)
+returns c = point-refused _ _ _ _ (refused-so (startOf (c .before .before .before .before .begin .result)) (c .before .before .before .before .begin .ensures) (not-reached (c .before .before .before .before .begin .result) (c .before .before .before .match .keys2)) _ (c .before .refusal-of .ensures)) _ _ (c .no-point .ensures .0) (c .no-point .ensures .1)
 
 magic-at-requires : tie.Need-magic-at-requires
 magic-at-requires c κs = omega (arith, object-at (λ i. c .before .before .before .before .before .shared-slice-known .given i .fits) (start-object (λ i. c .before .before .before .before .before .shared-slice-known .given i .fits) _ _ _ (sym (ap startOf (c .before .begun .given .1)) ∙ c .before .before .before .begin .ensures)) .standing .fits)
@@ -49,7 +49,7 @@ read-point-spec =
     begin-requires
     enum-known-begun
     enum-told
-    number-requires
+    refusal-of-requires
     no-point-requires
     returns
     magic-at-requires

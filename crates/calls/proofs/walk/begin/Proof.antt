@@ -1,7 +1,8 @@
 -- begin: refused first, or the walk.
 use Rattle.calls.proofs.walk.begin.Tie as tie
-use mathlib.Core.Path.{_∙_, sym}
+use mathlib.Core.Path.{_∙_, ap, sym}
 use borrow.Author.Needs.{needs}
+use Rattle.calls.specs.Refusal.{numberOf}
 use Rattle.calls.specs.Walk.{start}
 use Rattle.calls.proofs.Steps.{opened, or-passed, or-refused}
 use Rattle.calls.proofs.walk.begin.Statement.{statement}
@@ -9,22 +10,26 @@ use Rattle.calls.proofs.walk.begin.Statement.{statement}
 opening-requires : tie.Need-opening-requires
 opening-requires c κs = search needs
 
+number-requires : tie.Need-number-requires
+number-requires c κs = search needs
+
 returns : tie.Need-returns
 unfolding start
-returns c = or-refused _ _ (c .before .opening .ensures) (c .if1 .taken)
+returns c = or-refused _ _ (c .before .before .opening .ensures) (c .before .number .ensures) (c .if1 .taken)
 
 walk-from-requires : tie.Need-walk-from-requires
-walk-from-requires c κs = opened _ _ _ (sym (c .before .opening .ensures) ∙ c .if1 .left) .0
+walk-from-requires c κs = opened _ _ _ (ap numberOf (sym (c .before .before .opening .ensures)) ∙ sym (c .before .number .ensures) ∙ c .if1 .left) .0
 
 returns-2 : tie.Need-returns-2
 unfolding start
-returns-2 c = c .walk-from .ensures ∙ or-passed _ _ (c .before .before .opening .ensures) (c .before .if1 .left)
+returns-2 c = c .walk-from .ensures ∙ or-passed _ _ (c .before .before .before .opening .ensures) (c .before .before .number .ensures) (c .before .if1 .left)
 
 pub begin-spec : {M : Type 1} → statement M
 begin-spec =
     tie.close
     (tie.spec
     opening-requires
+    number-requires
     returns
     walk-from-requires
     returns-2)

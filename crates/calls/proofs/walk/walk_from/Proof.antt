@@ -48,11 +48,11 @@ take-step-requires c κs = c .before .before .loop .inv .object
 enum-known-came : tie.Need-enum-known-came Inv-loop μ-loop
 enum-known-came c = search needs
 
-refusal-of-requires : tie.Need-refusal-of-requires Inv-loop μ-loop
-refusal-of-requires c κs = search needs
+step-refusal-requires : tie.Need-step-refusal-requires Inv-loop μ-loop
+step-refusal-requires c κs = search needs
 
 returns : tie.Need-returns Inv-loop μ-loop
-returns c = walking-out (c .before .before .before .before .before .loop .inv) (omega (arith, c .before .before .before .before .before .before .before .count .ensures)) (c .before .before .before .component .ensures) _ (c .before .before .take-step .ensures) _ (c .refusal-of .ensures) (not-child (c .before .before .take-step .result) (c .before .match .keys2))
+returns c = walking-out (c .before .before .before .before .before .loop .inv) (omega (arith, c .before .before .before .before .before .before .before .count .ensures)) (c .before .before .before .component .ensures) _ (c .before .before .take-step .ensures) _ (c .step-refusal .ensures) (not-child (c .before .before .take-step .result) (c .before .match .keys2))
 
 add-i : tie.Need-add-i Inv-loop μ-loop
 add-i c = search needs
@@ -78,7 +78,7 @@ walk-from-spec =
     component-requires
     take-step-requires
     enum-known-came
-    refusal-of-requires
+    step-refusal-requires
     returns
     add-i
     loop-less

@@ -19,14 +19,14 @@ enum-known-begun c = search needs
 enum-told : tie.Need-enum-told
 enum-told c = search needs
 
-number-requires : tie.Need-number-requires
-number-requires c κs = search needs
+refusal-of-requires : tie.Need-refusal-of-requires
+refusal-of-requires c κs = search needs
 
 same-length : tie.Need-same-length
 same-length c = search needs
 
 returns : tie.Need-returns
-returns c = write-is _ _ _ _ (file-refused _ _ _ (refused-so (startOf (c .before .before .before .begin .result)) (c .before .before .before .begin .ensures) (not-reached (c .before .before .before .begin .result) (c .before .before .match .keys2)) _ (c .number .ensures)))
+returns c = write-is _ _ _ _ (file-refused _ _ _ (refused-so (startOf (c .before .before .before .begin .result)) (c .before .before .before .begin .ensures) (not-reached (c .before .before .before .begin .result) (c .before .before .match .keys2)) _ (c .refusal-of .ensures)))
 
 magic-at-requires : tie.Need-magic-at-requires
 magic-at-requires c κs = omega (arith, object-at (λ i. c .before .before .before .before .before .before .before .before .slice-known .given i .fits) (start-object (λ i. c .before .before .before .before .before .before .before .before .slice-known .given i .fits) _ _ _ (sym (ap startOf (c .before .before .begun .given .1)) ∙ c .before .before .before .before .begin .ensures)) .standing .fits)
@@ -53,7 +53,7 @@ write-spec =
     begin-requires
     enum-known-begun
     enum-told
-    number-requires
+    refusal-of-requires
     same-length
     returns
     magic-at-requires

@@ -21,8 +21,8 @@ enum-known-begun c = search needs
 enum-told : tie.Need-enum-told
 enum-told c = search needs
 
-number-requires : tie.Need-number-requires
-number-requires c κs = search needs
+refusal-of-requires : tie.Need-refusal-of-requires
+refusal-of-requires c κs = search needs
 
 unmade-requires : tie.Need-unmade-requires
 unmade-requires c κs = search needs
@@ -31,7 +31,7 @@ same-length : tie.Need-same-length
 same-length c = search needs
 
 returns : tie.Need-returns
-returns c = make-refused _ _ (newOf (c .before .before .before .before .before .before .before .before .before .args .new)) (c .before .before .before .before .before .allowed .ensures) _ (refused-so (startOf (c .before .before .before .before .begin-above .result)) (c .before .before .before .before .begin-above .ensures) (not-reached (c .before .before .before .before .begin-above .result) (c .before .before .before .match .keys2)) _ (c .before .number .ensures)) _ _ (c .unmade .ensures .0) (c .unmade .ensures .1)
+returns c = make-refused _ _ (newOf (c .before .before .before .before .before .before .before .before .before .args .new)) (c .before .before .before .before .before .allowed .ensures) _ (refused-so (startOf (c .before .before .before .before .begin-above .result)) (c .before .before .before .before .begin-above .ensures) (not-reached (c .before .before .before .before .begin-above .result) (c .before .before .before .match .keys2)) _ (c .before .refusal-of .ensures)) _ _ (c .unmade .ensures .0) (c .unmade .ensures .1)
 
 last-name-requires : tie.Need-last-name-requires
 last-name-requires c κs = search needs
@@ -55,7 +55,7 @@ make-spec =
     begin-above-requires
     enum-known-begun
     enum-told
-    number-requires
+    refusal-of-requires
     unmade-requires
     same-length
     returns

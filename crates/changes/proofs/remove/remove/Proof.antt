@@ -17,14 +17,14 @@ enum-known-begun c = search needs
 enum-told : tie.Need-enum-told
 enum-told c = search needs
 
-number-requires : tie.Need-number-requires
-number-requires c κs = search needs
+refusal-of-requires : tie.Need-refusal-of-requires
+refusal-of-requires c κs = search needs
 
 same-length : tie.Need-same-length
 same-length c = search needs
 
 returns : tie.Need-returns
-returns c = remove-refused _ _ _ (refused-so (startOf (c .before .before .before .begin-above .result)) (c .before .before .before .begin-above .ensures) (not-reached (c .before .before .before .begin-above .result) (c .before .before .match .keys2)) _ (c .number .ensures))
+returns c = remove-refused _ _ _ (refused-so (startOf (c .before .before .before .begin-above .result)) (c .before .before .before .begin-above .ensures) (not-reached (c .before .before .before .begin-above .result) (c .before .before .match .keys2)) _ (c .refusal-of .ensures))
 
 last-name-requires : tie.Need-last-name-requires
 last-name-requires c κs = search needs
@@ -45,7 +45,7 @@ remove-spec =
     begin-above-requires
     enum-known-begun
     enum-told
-    number-requires
+    refusal-of-requires
     same-length
     returns
     last-name-requires
