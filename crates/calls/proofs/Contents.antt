@@ -77,7 +77,8 @@ module _ {s : List ℕ} (h : AllBytes s) {r : ℕ} (f : FileIn s r) where
   kind-file {n} {m} e g =
       ap (λ (x : ℕ). file x (m - 16)) (e ∙ ap fileSize block-is)
       ∙ ap (λ (x : ℕ). file (fileSize (blockIn s r)) x) (ap (λ (x : ℕ). x - 16) g ∙ sym room-is)
-      ∙ sym (ap (λ (t : Bool). cond t (directory (takenCount (slots (blockIn s r))) (total (blockIn s r))) (file (fileSize (blockIn s r)) (room (blockIn s r)))) (file-no-dir (blockIn s r) (f .kind)))
+      ∙ sym (ap (λ (t : Bool). cond t (directory (takenCount (slots (blockIn s r))) (total (blockIn s r))) (file (fileSize (blockIn s r)) (room (blockIn s r))))
+      (file-no-dir (blockIn s r) (f .kind)))
 
   pub size-low : fileSize (blockIn s r) ≤ sizeAt s r - 16
   size-low = subst (λ (n : ℕ). fileSize (blockIn s r) ≤ n) room-is (formed-file s h (f .formed) r (f .kind) .0)

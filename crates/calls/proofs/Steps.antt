@@ -26,7 +26,8 @@ use Rattle.calls.specs.declared.refusal.Refusal.the-variants.{Accepted, 
 use Rattle.calls.specs.Answers.{DirectoryIn, ObjectAt, named, startRefusal, walkRefusal}
 use Rattle.calls.specs.Reading.{blockIn}
 use Rattle.calls.specs.Refusal.{accepted, broken, check, numberOf}
-use Rattle.calls.specs.Walk.{Start, Walk, aboveLast, asDirectory, at, blocked, child, lastName, missing, opening, orRefused, reached, refused, slotNamed, start, startAbove, step, walk, walkFrom, walked}
+use Rattle.calls.specs.Walk.{Start, Walk, aboveLast, asDirectory, at, blocked, child, lastName, missing, opening}
+use Rattle.calls.specs.Walk.{orRefused, reached, refused, slotNamed, start, startAbove, step, walk, walkFrom, walked}
 use Rattle.calls.proofs.Lowest.{found-slot}
 use Rattle.calls.proofs.Stands.{root-object, slot-name-stands, slot-object, slot-read}
 
@@ -218,7 +219,8 @@ module _ (s path : List ℕ) (allowed : Bool) (top : Reason) {b : Refusal} (o : 
           go [] u f = absurd (u refl)
           go (w ∷ ws) u f = ap (asDirectory s) f
 
-      pub above-refused : (x : Start) → x ≡ walkFrom s (components p) → ((r : ℕ) → x ≡ reached r → ⊥) → {k : Refusal} → k ≡ startRefusal x → refused k ≡ startAbove s path allowed top
+      pub above-refused : (x : Start) → x ≡ walkFrom s (components p) → ((r : ℕ) → x ≡ reached r → ⊥) → {k : Refusal} → k ≡ startRefusal x
+          → refused k ≡ startAbove s path allowed top
       above-refused (refused l) e r f = ap refused f ∙ came (refused l) e
       above-refused (reached d) e r f = absurd (r d refl)
 

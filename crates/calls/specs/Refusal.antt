@@ -5,7 +5,8 @@ use mathlib.Core.Bool.{Bool, cond}
 use lib.Dec.{eqb}
 use Rattle.tree.specs.Verdict.{Verdict, verdict, wellFormed}
 use Rattle.calls.specs.declared.refusal.Reason.{Reason}
-use Rattle.calls.specs.declared.refusal.Reason.the-variants.{BadLength, BadPath, NotFound, NotDirectory, IsDirectory, Exists, NoSlot, NoRoom, NotEmpty, OutOfBounds, IsRoot, PastRoom, PastEnd, TooFewLines}
+use Rattle.calls.specs.declared.refusal.Reason.the-variants.{BadLength, BadPath, NotFound, NotDirectory, IsDirectory, Exists, NoSlot}
+use Rattle.calls.specs.declared.refusal.Reason.the-variants.{NoRoom, NotEmpty, OutOfBounds, IsRoot, PastRoom, PastEnd, TooFewLines}
 use Rattle.calls.specs.declared.refusal.Refusal.{Refusal}
 use Rattle.calls.specs.declared.refusal.Refusal.the-variants.{Accepted, Broken, For}
 

@@ -227,7 +227,8 @@ module _ (s path : List ℕ) (new : New) where
 pub last-named : (path w : List ℕ) → validPath path ≡ true → (length (components path) ≡ 0 → ⊥) → w ≡ lastName path → Named w
 unfolding lastName allValid
 last-named path w v n e =
-    let l = name-length (getD (components path) (length (components path) - 1) []) (valid-at (components path) (length (components path) - 1) (omega (arith, positive (length (components path)) n)) (valid-components path v .0)) in
+    let l = name-length (getD (components path) (length (components path) - 1) [])
+    (valid-at (components path) (length (components path) - 1) (omega (arith, positive (length (components path)) n)) (valid-components path v .0)) in
     subst Named (sym e) (record { least = l .0; most = l .1 })
   where
     positive : (m : ℕ) → (m ≡ 0 → ⊥) → 0 < m

@@ -141,7 +141,8 @@ module _ {s : List ℕ} (h : AllBytes s) {r : ℕ} (f : FileIn s r) where
         bytes-open = store-both (open-file h f) (16 + from) (zeroed (position - from)) bytes (omega (arith, length-zeroed (position - from))) (omega arith) et eu
 
         -- after the size
-        pub written-done : 0 < length bytes → {size : ℕ} → size ≡ max z (position + length bytes) → {v : List ℕ} → v ≡ afterUpdate r 0 (be64 size) u → Changes (written s r position bytes) Accepted v
+        pub written-done : 0 < length bytes → {size : ℕ} → size ≡ max z (position + length bytes) → {v : List ℕ} → v ≡ afterUpdate r 0 (be64 size) u → Changes
+            (written s r position bytes) Accepted v
         written-done p {size} d {v} ev =
             by-bytes bytes p
             (size-stored from size (zeroed (position - from) ++ bytes) bytes-open ev
@@ -150,7 +151,8 @@ module _ {s : List ℕ} (h : AllBytes s) {r : ℕ} (f : FileIn s r) where
             ∙ ap (λ (m : ℕ). image (stored s r (max m (position + length bytes)) (min position m) (zeroed (position - min position m) ++ bytes))) (size-read h f e))
           where
             by-bytes : (y : List ℕ) → 0 < length y
-                → v ≡ image (stored s r (max (fileSize (blockIn s r)) (position + length y)) (min position (fileSize (blockIn s r))) (zeroed (position - min position (fileSize (blockIn s r))) ++ y))
+                → v ≡ image (stored s r (max (fileSize (blockIn s r)) (position + length y)) (min position (fileSize (blockIn s r)))
+                (zeroed (position - min position (fileSize (blockIn s r))) ++ y))
                 → Changes (written s r position y) Accepted v
             by-bytes [] q w = absurd (omega arith)
             by-bytes (y ∷ ys) q w = record { refusal-is = refl; image-is = w }

@@ -10,7 +10,8 @@ use Rattle.alloc.specs.Volume.{objects, volumeOf}
 use Rattle.tree.specs.Fields.{isDir}
 use Rattle.tree.specs.Verdict.{verdict, wellFormed}
 use Rattle.calls.specs.declared.refusal.Reason.{Reason}
-use Rattle.calls.specs.declared.refusal.Reason.the-variants.{BadLength, BadPath, Exists, IsDirectory, IsRoot, NoRoom, NoSlot, NotDirectory, NotEmpty, NotFound, OutOfBounds, PastEnd, PastRoom, TooFewLines}
+use Rattle.calls.specs.declared.refusal.Reason.the-variants.{BadLength, BadPath, Exists, IsDirectory, IsRoot, NoRoom, NoSlot}
+use Rattle.calls.specs.declared.refusal.Reason.the-variants.{NotDirectory, NotEmpty, NotFound, OutOfBounds, PastEnd, PastRoom, TooFewLines}
 use Rattle.calls.specs.declared.refusal.Refusal.{Refusal}
 use Rattle.calls.specs.declared.refusal.Refusal.the-variants.{Accepted, For}
 use Rattle.calls.specs.Refusal.{accepted, broken, check, numberOf, reasonNumber}

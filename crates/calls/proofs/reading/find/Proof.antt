@@ -17,7 +17,9 @@ enum-known-r : tie.Need-enum-known-r
 enum-known-r c = search needs
 
 kind-at-requires : tie.Need-kind-at-requires
-kind-at-requires c κs = start-object (λ i. c .before .before .before .before .before .shared-slice-known .given i .fits) _ _ _ (sym (ap startOf (c .before .r .given .1)) ∙ c .before .before .before .begin .ensures)
+kind-at-requires c κs =
+    start-object (λ i. c .before .before .before .before .before .shared-slice-known .given i .fits) _ _ _
+    (sym (ap startOf (c .before .r .given .1)) ∙ c .before .before .before .begin .ensures)
 
 returns : tie.Need-returns
 returns c = find-refused _ _ _ (sym (ap startOf (c .before .refusal .given .1)) ∙ c .before .before .before .begin .ensures)

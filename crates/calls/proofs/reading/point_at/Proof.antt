@@ -19,8 +19,12 @@ no-point-requires c κs = search needs
 returns : tie.Need-returns
 returns c =
     record {
-      refusal-is = c .no-point .ensures .0 ∙ ap (λ (p : Point). p .refusal) (point-none (λ i. c .before .before .before .shared-slice-known .given i .fits) (c .before .before .before .before .pre .0) (c .before .before .read-u64 .ensures) (c .before .before .before .before .args .n) (omega arith));
-      bytes-is = c .no-point .ensures .1 ∙ ap (λ (p : Point). p .bytes) (point-none (λ i. c .before .before .before .shared-slice-known .given i .fits) (c .before .before .before .before .pre .0) (c .before .before .read-u64 .ensures) (c .before .before .before .before .args .n) (omega arith));
+      refusal-is = c .no-point .ensures .0 ∙ ap (λ (p : Point). p .refusal)
+          (point-none (λ i. c .before .before .before .shared-slice-known .given i .fits) (c .before .before .before .before .pre .0) (c .before .before .read-u64 .ensures)
+          (c .before .before .before .before .args .n) (omega arith));
+      bytes-is = c .no-point .ensures .1 ∙ ap (λ (p : Point). p .bytes)
+          (point-none (λ i. c .before .before .before .shared-slice-known .given i .fits) (c .before .before .before .before .pre .0) (c .before .before .read-u64 .ensures)
+          (c .before .before .before .before .args .n) (omega arith));
     }
 
 mul-t13 : tie.Need-mul-t13
@@ -30,10 +34,19 @@ slice-aggregate-copy-out : tie.Need-slice-aggregate-copy-out
 slice-aggregate-copy-out c = search needs
 
 copy-out-requires : tie.Need-copy-out-requires
-copy-out-requires c κs = (file-standing (λ i. c .before .before .before .shared-slice-known .given i .fits) (c .before .before .before .before .pre .0), point-inside (λ i. c .before .before .before .shared-slice-known .given i .fits) (c .before .before .before .before .pre .0) (c .before .before .read-u64 .ensures) (c .before .before .before .before .args .n) (c .before .before .before .before .pre .1) (omega arith), search needs)
+copy-out-requires c κs = (
+  file-standing (λ i. c .before .before .before .shared-slice-known .given i .fits) (c .before .before .before .before .pre .0),
+  point-inside
+      (λ i. c .before .before .before .shared-slice-known .given i .fits) (c .before .before .before .before .pre .0) (c .before .before .read-u64 .ensures)
+      (c .before .before .before .before .args .n) (c .before .before .before .before .pre .1) (omega arith),
+  search needs,
+)
 
 returns-2 : tie.Need-returns-2
-returns-2 c = point-some (λ i. c .before .before .before .before .before .shared-slice-known .given i .fits) (c .before .before .before .before .before .before .pre .0) (c .before .before .before .before .read-u64 .ensures) (c .before .before .before .before .before .before .args .n) (c .before .before .before .before .before .before .pre .1) (omega arith) _ (c .before .copy-out .ensures)
+returns-2 c =
+    point-some (λ i. c .before .before .before .before .before .shared-slice-known .given i .fits) (c .before .before .before .before .before .before .pre .0)
+    (c .before .before .before .before .read-u64 .ensures) (c .before .before .before .before .before .before .args .n)
+    (c .before .before .before .before .before .before .pre .1) (omega arith) _ (c .before .copy-out .ensures)
 
 pub point-at-spec : {M : Type 1} → statement M
 point-at-spec =

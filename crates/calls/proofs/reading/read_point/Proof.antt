@@ -25,22 +25,50 @@ no-point-requires : tie.Need-no-point-requires
 no-point-requires c κs = search needs
 
 returns : tie.Need-returns
-returns c = point-refused _ _ _ _ (refused-so (startOf (c .before .before .before .before .begin .result)) (c .before .before .before .before .begin .ensures) (not-reached (c .before .before .before .before .begin .result) (c .before .before .before .match .keys2)) _ (c .before .refusal-of .ensures)) _ _ (c .no-point .ensures .0) (c .no-point .ensures .1)
+returns c =
+    point-refused _ _ _ _ (refused-so (startOf (c .before .before .before .before .begin .result)) (c .before .before .before .before .begin .ensures)
+    (not-reached (c .before .before .before .before .begin .result) (c .before .before .before .match .keys2)) _ (c .before .refusal-of .ensures)) _ _ (c .no-point .ensures .0)
+    (c .no-point .ensures .1)
 
 magic-at-requires : tie.Need-magic-at-requires
-magic-at-requires c κs = omega (arith, object-at (λ i. c .before .before .before .before .before .shared-slice-known .given i .fits) (start-object (λ i. c .before .before .before .before .before .shared-slice-known .given i .fits) _ _ _ (sym (ap startOf (c .before .begun .given .1)) ∙ c .before .before .before .begin .ensures)) .standing .fits)
+magic-at-requires c κs =
+    omega (
+      arith,
+      object-at (λ i. c .before .before .before .before .before .shared-slice-known .given i .fits)
+          (start-object (λ i. c .before .before .before .before .before .shared-slice-known .given i .fits) _ _ _
+          (sym (ap startOf (c .before .begun .given .1)) ∙ c .before .before .before .begin .ensures)) .standing .fits,
+    )
 
 no-point-requires-2 : tie.Need-no-point-requires-2
 no-point-requires-2 c κs = search needs
 
 returns-2 : tie.Need-returns-2
-returns-2 c = point-directory _ _ _ _ (sym (ap startOf (c .before .before .before .before .begun .given .1)) ∙ c .before .before .before .before .before .before .begin .ensures) (no-file (λ i. c .before .before .before .before .before .before .before .before .shared-slice-known .given i .fits) (start-object (λ i. c .before .before .before .before .before .before .before .before .shared-slice-known .given i .fits) _ _ _ (sym (ap startOf (c .before .before .before .before .begun .given .1)) ∙ c .before .before .before .before .before .before .begin .ensures)) (c .before .before .magic-at .ensures) (c .before .if1 .taken)) _ _ (c .no-point2 .ensures .0) (c .no-point2 .ensures .1)
+returns-2 c =
+    point-directory _ _ _ _ (sym (ap startOf (c .before .before .before .before .begun .given .1)) ∙ c .before .before .before .before .before .before .begin .ensures)
+    (no-file (λ i. c .before .before .before .before .before .before .before .before .shared-slice-known .given i .fits)
+    (start-object (λ i. c .before .before .before .before .before .before .before .before .shared-slice-known .given i .fits) _ _ _
+    (sym (ap startOf (c .before .before .before .before .begun .given .1)) ∙ c .before .before .before .before .before .before .begin .ensures))
+    (c .before .before .magic-at .ensures) (c .before .if1 .taken)) _ _ (c .no-point2 .ensures .0) (c .no-point2 .ensures .1)
 
 point-at-requires : tie.Need-point-at-requires
-point-at-requires c κs = (object-file (λ i. c .before .before .before .before .before .before .before .shared-slice-known .given i .fits) (start-object (λ i. c .before .before .before .before .before .before .before .shared-slice-known .given i .fits) _ _ _ (sym (ap startOf (c .before .before .before .begun .given .1)) ∙ c .before .before .before .before .before .begin .ensures)) (c .before .magic-at .ensures) (c .if1 .left), reached-number _ _ _ _ (sym (ap startOf (c .before .before .before .begun .given .1)) ∙ c .before .before .before .before .before .begin .ensures) .0, reached-number _ _ _ _ (sym (ap startOf (c .before .before .before .begun .given .1)) ∙ c .before .before .before .before .before .begin .ensures) .1)
+point-at-requires c κs = (
+  object-file (λ i. c .before .before .before .before .before .before .before .shared-slice-known .given i .fits)
+      (start-object (λ i. c .before .before .before .before .before .before .before .shared-slice-known .given i .fits) _ _ _
+      (sym (ap startOf (c .before .before .before .begun .given .1)) ∙ c .before .before .before .before .before .begin .ensures)) (c .before .magic-at .ensures)
+      (c .if1 .left),
+  reached-number _ _ _ _
+      (sym (ap startOf (c .before .before .before .begun .given .1)) ∙ c .before .before .before .before .before .begin .ensures) .0,
+  reached-number _ _ _ _
+      (sym (ap startOf (c .before .before .before .begun .given .1)) ∙ c .before .before .before .before .before .begin .ensures) .1,
+)
 
 returns-3 : tie.Need-returns-3
-returns-3 c = point-file _ _ _ _ (sym (ap startOf (c .before .before .before .before .begun .given .1)) ∙ c .before .before .before .before .before .before .begin .ensures) (object-file (λ i. c .before .before .before .before .before .before .before .before .shared-slice-known .given i .fits) (start-object (λ i. c .before .before .before .before .before .before .before .before .shared-slice-known .given i .fits) _ _ _ (sym (ap startOf (c .before .before .before .before .begun .given .1)) ∙ c .before .before .before .before .before .before .begin .ensures)) (c .before .before .magic-at .ensures) (c .before .if1 .left) .kind) _ _ (c .point-at .ensures)
+returns-3 c =
+    point-file _ _ _ _ (sym (ap startOf (c .before .before .before .before .begun .given .1)) ∙ c .before .before .before .before .before .before .begin .ensures)
+    (object-file (λ i. c .before .before .before .before .before .before .before .before .shared-slice-known .given i .fits)
+    (start-object (λ i. c .before .before .before .before .before .before .before .before .shared-slice-known .given i .fits) _ _ _
+    (sym (ap startOf (c .before .before .before .before .begun .given .1)) ∙ c .before .before .before .before .before .before .begin .ensures))
+    (c .before .before .magic-at .ensures) (c .before .if1 .left) .kind) _ _ (c .point-at .ensures)
 
 pub read-point-spec : {M : Type 1} → statement M
 read-point-spec =

@@ -23,13 +23,17 @@ count-requires : tie.Need-count-requires
 count-requires c κs = search needs
 
 returns-2 : tie.Need-returns-2
-returns-2 c = above-root _ _ _ _ (c .before .before .before .before .opening .ensures) (c .before .before .before .number .ensures) (c .before .before .if1 .left) (c .before .count .ensures) (c .if2 .taken)
+returns-2 c =
+    above-root _ _ _ _ (c .before .before .before .before .opening .ensures) (c .before .before .before .number .ensures) (c .before .before .if1 .left)
+    (c .before .count .ensures) (c .if2 .taken)
 
 directory-requires : tie.Need-directory-requires
 directory-requires c κs = search needs
 
 walk-from-requires : tie.Need-walk-from-requires
-walk-from-requires c κs = opened _ _ _ (ap numberOf (sym (c .before .before .before .before .before .opening .ensures)) ∙ sym (c .before .before .before .before .number .ensures) ∙ c .before .before .before .if1 .left) .0
+walk-from-requires c κs =
+    opened _ _ _ (ap numberOf (sym (c .before .before .before .before .before .opening .ensures)) ∙ sym (c .before .before .before .before .number .ensures) ∙
+    c .before .before .before .if1 .left) .0
 
 enum-known-begun : tie.Need-enum-known-begun
 enum-known-begun c = search needs
@@ -41,16 +45,53 @@ refusal-of-requires : tie.Need-refusal-of-requires
 refusal-of-requires c κs = search needs
 
 returns-3 : tie.Need-returns-3
-returns-3 c = above-refused _ _ _ _ (c .before .before .before .before .before .before .before .before .before .opening .ensures) (c .before .before .before .before .before .before .before .before .number .ensures) (c .before .before .before .before .before .before .before .if1 .left) (c .before .before .before .before .before .before .count .ensures) (c .before .before .before .before .before .if2 .left) _ (c .before .before .before .before .directory .ensures) (startOf (c .before .before .before .walk-from .result)) (c .before .before .before .walk-from .ensures) (not-reached (c .before .before .before .walk-from .result) (c .before .before .match .keys2)) (c .refusal-of .ensures)
+returns-3 c =
+    above-refused _ _ _ _ (c .before .before .before .before .before .before .before .before .before .opening .ensures)
+    (c .before .before .before .before .before .before .before .before .number .ensures) (c .before .before .before .before .before .before .before .if1 .left)
+    (c .before .before .before .before .before .before .count .ensures) (c .before .before .before .before .before .if2 .left) _
+    (c .before .before .before .before .directory .ensures) (startOf (c .before .before .before .walk-from .result)) (c .before .before .before .walk-from .ensures)
+    (not-reached (c .before .before .before .walk-from .result) (c .before .before .match .keys2)) (c .refusal-of .ensures)
 
 magic-at-requires : tie.Need-magic-at-requires
-magic-at-requires c κs = omega (arith, object-at (λ i. c .before .before .before .before .before .before .before .before .before .before .before .shared-slice-known .given i .fits) (walked-object (λ i. c .before .before .before .before .before .before .before .before .before .before .before .shared-slice-known .given i .fits) (opened _ _ _ (ap numberOf (sym (c .before .before .before .before .before .before .before .before .before .opening .ensures)) ∙ sym (c .before .before .before .before .before .before .before .before .number .ensures) ∙ c .before .before .before .before .before .before .before .if1 .left) .0) _ _ (sym (ap startOf (c .before .begun .given .1)) ∙ c .before .before .before .walk-from .ensures)) .standing .fits)
+magic-at-requires c κs =
+    omega (
+      arith,
+      object-at (λ i. c .before .before .before .before .before .before .before .before .before .before .before .shared-slice-known .given i .fits)
+          (walked-object (λ i. c .before .before .before .before .before .before .before .before .before .before .before .shared-slice-known .given i .fits)
+          (opened _ _ _ (ap numberOf (sym (c .before .before .before .before .before .before .before .before .before .opening .ensures)) ∙ sym
+          (c .before .before .before .before .before .before .before .before .number .ensures) ∙ c .before .before .before .before .before .before .before .if1 .left) .0) _ _
+          (sym (ap startOf (c .before .begun .given .1)) ∙ c .before .before .before .walk-from .ensures)) .standing .fits,
+    )
 
 returns-4 : tie.Need-returns-4
-returns-4 c = above-file _ _ _ _ (c .before .before .before .before .before .before .before .before .before .before .before .opening .ensures) (c .before .before .before .before .before .before .before .before .before .before .number .ensures) (c .before .before .before .before .before .before .before .before .before .if1 .left) (c .before .before .before .before .before .before .before .before .count .ensures) (c .before .before .before .before .before .before .before .if2 .left) _ (c .before .before .before .before .before .before .directory .ensures) _ (sym (ap startOf (c .before .before .before .begun .given .1)) ∙ c .before .before .before .before .before .walk-from .ensures) (no-directory (λ i. c .before .before .before .before .before .before .before .before .before .before .before .before .before .shared-slice-known .given i .fits) (walked-object (λ i. c .before .before .before .before .before .before .before .before .before .before .before .before .before .shared-slice-known .given i .fits) (opened _ _ _ (ap numberOf (sym (c .before .before .before .before .before .before .before .before .before .before .before .opening .ensures)) ∙ sym (c .before .before .before .before .before .before .before .before .before .before .number .ensures) ∙ c .before .before .before .before .before .before .before .before .before .if1 .left) .0) _ _ (sym (ap startOf (c .before .before .before .begun .given .1)) ∙ c .before .before .before .before .before .walk-from .ensures)) (c .before .magic-at .ensures) (c .if3 .taken))
+returns-4 c =
+    above-file _ _ _ _ (c .before .before .before .before .before .before .before .before .before .before .before .opening .ensures)
+    (c .before .before .before .before .before .before .before .before .before .before .number .ensures)
+    (c .before .before .before .before .before .before .before .before .before .if1 .left) (c .before .before .before .before .before .before .before .before .count .ensures)
+    (c .before .before .before .before .before .before .before .if2 .left) _ (c .before .before .before .before .before .before .directory .ensures) _
+    (sym (ap startOf (c .before .before .before .begun .given .1)) ∙ c .before .before .before .before .before .walk-from .ensures)
+    (no-directory (λ i. c .before .before .before .before .before .before .before .before .before .before .before .before .before .shared-slice-known .given i .fits)
+    (walked-object (λ i. c .before .before .before .before .before .before .before .before .before .before .before .before .before .shared-slice-known .given i .fits)
+    (opened _ _ _ (ap numberOf (sym (c .before .before .before .before .before .before .before .before .before .before .before .opening .ensures)) ∙ sym
+    (c .before .before .before .before .before .before .before .before .before .before .number .ensures) ∙
+    c .before .before .before .before .before .before .before .before .before .if1 .left) .0) _ _
+    (sym (ap startOf (c .before .before .before .begun .given .1)) ∙ c .before .before .before .before .before .walk-from .ensures)) (c .before .magic-at .ensures)
+    (c .if3 .taken))
 
 returns-5 : tie.Need-returns-5
-returns-5 c = above-directory _ _ _ _ (c .before .before .before .before .before .before .before .before .before .before .before .opening .ensures) (c .before .before .before .before .before .before .before .before .before .before .number .ensures) (c .before .before .before .before .before .before .before .before .before .if1 .left) (c .before .before .before .before .before .before .before .before .count .ensures) (c .before .before .before .before .before .before .before .if2 .left) _ (c .before .before .before .before .before .before .directory .ensures) _ (sym (ap startOf (c .before .before .before .begun .given .1)) ∙ c .before .before .before .before .before .walk-from .ensures) (object-directory (λ i. c .before .before .before .before .before .before .before .before .before .before .before .before .before .shared-slice-known .given i .fits) (walked-object (λ i. c .before .before .before .before .before .before .before .before .before .before .before .before .before .shared-slice-known .given i .fits) (opened _ _ _ (ap numberOf (sym (c .before .before .before .before .before .before .before .before .before .before .before .opening .ensures)) ∙ sym (c .before .before .before .before .before .before .before .before .before .before .number .ensures) ∙ c .before .before .before .before .before .before .before .before .before .if1 .left) .0) _ _ (sym (ap startOf (c .before .before .before .begun .given .1)) ∙ c .before .before .before .before .before .walk-from .ensures)) (c .before .magic-at .ensures) (c .if3 .left) .kind)
+returns-5 c =
+    above-directory _ _ _ _ (c .before .before .before .before .before .before .before .before .before .before .before .opening .ensures)
+    (c .before .before .before .before .before .before .before .before .before .before .number .ensures)
+    (c .before .before .before .before .before .before .before .before .before .if1 .left) (c .before .before .before .before .before .before .before .before .count .ensures)
+    (c .before .before .before .before .before .before .before .if2 .left) _ (c .before .before .before .before .before .before .directory .ensures) _
+    (sym (ap startOf (c .before .before .before .begun .given .1)) ∙ c .before .before .before .before .before .walk-from .ensures)
+    (object-directory (λ i. c .before .before .before .before .before .before .before .before .before .before .before .before .before .shared-slice-known .given i .fits)
+    (walked-object (λ i. c .before .before .before .before .before .before .before .before .before .before .before .before .before .shared-slice-known .given i .fits)
+    (opened _ _ _ (ap numberOf (sym (c .before .before .before .before .before .before .before .before .before .before .before .opening .ensures)) ∙ sym
+    (c .before .before .before .before .before .before .before .before .before .before .number .ensures) ∙
+    c .before .before .before .before .before .before .before .before .before .if1 .left) .0) _ _
+    (sym (ap startOf (c .before .before .before .begun .given .1)) ∙ c .before .before .before .before .before .walk-from .ensures)) (c .before .magic-at .ensures)
+    (c .if3 .left) .kind)
 
 pub begin-above-spec : {M : Type 1} → statement M
 begin-above-spec =

@@ -20,13 +20,19 @@ valid-path-requires : tie.Need-valid-path-requires
 valid-path-requires c κs = search needs
 
 returns-2 : tie.Need-returns-2
-returns-2 c = opening-path _ _ _ (checked-formed _ (c .before .before .before .before .check .ensures) (c .before .before .before .number .ensures) (c .before .before .if1 .left)) (sym (c .before .valid-path .ensures) ∙ not-true _ (c .if2 .taken))
+returns-2 c =
+    opening-path _ _ _ (checked-formed _ (c .before .before .before .before .check .ensures) (c .before .before .before .number .ensures) (c .before .before .if1 .left))
+    (sym (c .before .valid-path .ensures) ∙ not-true _ (c .if2 .taken))
 
 returns-3 : tie.Need-returns-3
-returns-3 c = opening-bounds _ _ _ (checked-formed _ (c .before .before .before .before .before .check .ensures) (c .before .before .before .before .number .ensures) (c .before .before .before .if1 .left)) (sym (c .before .before .valid-path .ensures) ∙ not-false _ (c .before .if2 .left)) (not-true _ (c .if3 .taken))
+returns-3 c =
+    opening-bounds _ _ _ (checked-formed _ (c .before .before .before .before .before .check .ensures) (c .before .before .before .before .number .ensures)
+    (c .before .before .before .if1 .left)) (sym (c .before .before .valid-path .ensures) ∙ not-false _ (c .before .if2 .left)) (not-true _ (c .if3 .taken))
 
 returns-4 : tie.Need-returns-4
-returns-4 c = opening-none _ _ _ (checked-formed _ (c .before .before .before .before .before .check .ensures) (c .before .before .before .before .number .ensures) (c .before .before .before .if1 .left)) (sym (c .before .before .valid-path .ensures) ∙ not-false _ (c .before .if2 .left)) (not-false _ (c .if3 .left))
+returns-4 c =
+    opening-none _ _ _ (checked-formed _ (c .before .before .before .before .before .check .ensures) (c .before .before .before .before .number .ensures)
+    (c .before .before .before .if1 .left)) (sym (c .before .before .valid-path .ensures) ∙ not-false _ (c .before .if2 .left)) (not-false _ (c .if3 .left))
 
 pub opening-spec : {M : Type 1} → statement M
 opening-spec =

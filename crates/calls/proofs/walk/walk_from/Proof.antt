@@ -52,7 +52,10 @@ step-refusal-requires : tie.Need-step-refusal-requires Inv-loop μ-loop
 step-refusal-requires c κs = search needs
 
 returns : tie.Need-returns Inv-loop μ-loop
-returns c = walking-out (c .before .before .before .before .before .loop .inv) (omega (arith, c .before .before .before .before .before .before .before .count .ensures)) (c .before .before .before .component .ensures) _ (c .before .before .take-step .ensures) _ (c .step-refusal .ensures) (not-child (c .before .before .take-step .result) (c .before .match .keys2))
+returns c =
+    walking-out (c .before .before .before .before .before .loop .inv) (omega (arith, c .before .before .before .before .before .before .before .count .ensures))
+    (c .before .before .before .component .ensures) _ (c .before .before .take-step .ensures) _ (c .step-refusal .ensures)
+    (not-child (c .before .before .take-step .result) (c .before .match .keys2))
 
 add-i : tie.Need-add-i Inv-loop μ-loop
 add-i c = search needs
@@ -61,7 +64,11 @@ loop-less : tie.Need-loop-less Inv-loop μ-loop
 loop-less c = search needs
 
 loop-again : tie.Need-loop-again Inv-loop μ-loop
-loop-again c = walking-on (c .before .before .before .before .before .before .loop .inv) (λ i. c .before .before .before .before .before .before .before .before .before .before .shared-slice-known .given i .fits) (omega (arith, c .before .before .before .before .before .before .before .before .count .ensures)) (c .before .before .before .before .component .ensures) _ (sym (ap stepOf (c .before .came .given .1)) ∙ c .before .before .before .take-step .ensures)
+loop-again c =
+    walking-on (c .before .before .before .before .before .before .loop .inv)
+    (λ i. c .before .before .before .before .before .before .before .before .before .before .shared-slice-known .given i .fits)
+    (omega (arith, c .before .before .before .before .before .before .before .before .count .ensures)) (c .before .before .before .before .component .ensures) _
+    (sym (ap stepOf (c .before .came .given .1)) ∙ c .before .before .before .take-step .ensures)
 
 returns-2 : tie.Need-returns-2 Inv-loop μ-loop
 returns-2 c = walking-end (c .before .loop .inv) (omega (arith, c .before .before .before .count .ensures))

@@ -26,25 +26,52 @@ same-length : tie.Need-same-length
 same-length c = search needs
 
 returns : tie.Need-returns
-returns c = set-length-is _ _ _ (file-refused _ _ _ (refused-so (startOf (c .before .before .before .begin .result)) (c .before .before .before .begin .ensures) (not-reached (c .before .before .before .begin .result) (c .before .before .match .keys2)) _ (c .refusal-of .ensures)))
+returns c =
+    set-length-is _ _ _ (file-refused _ _ _
+    (refused-so (startOf (c .before .before .before .begin .result)) (c .before .before .before .begin .ensures)
+    (not-reached (c .before .before .before .begin .result) (c .before .before .match .keys2)) _ (c .refusal-of .ensures)))
 
 magic-at-requires : tie.Need-magic-at-requires
-magic-at-requires c κs = omega (arith, object-at (λ i. c .before .before .before .before .before .before .before .slice-known .given i .fits) (start-object (λ i. c .before .before .before .before .before .before .before .slice-known .given i .fits) _ _ _ (sym (ap startOf (c .before .before .begun .given .1)) ∙ c .before .before .before .before .begin .ensures)) .standing .fits)
+magic-at-requires c κs =
+    omega (
+      arith,
+      object-at (λ i. c .before .before .before .before .before .before .before .slice-known .given i .fits)
+          (start-object (λ i. c .before .before .before .before .before .before .before .slice-known .given i .fits) _ _ _
+          (sym (ap startOf (c .before .before .begun .given .1)) ∙ c .before .before .before .before .begin .ensures)) .standing .fits,
+    )
 
 same-length-2 : tie.Need-same-length-2
 same-length-2 c = search needs
 
 returns-2 : tie.Need-returns-2
-returns-2 c = set-length-is _ _ _ (file-directory _ _ _ (sym (ap startOf (c .before .before .before .before .begun .given .1)) ∙ c .before .before .before .before .before .before .begin .ensures) (no-file (λ i. c .before .before .before .before .before .before .before .before .before .slice-known .given i .fits) (start-object (λ i. c .before .before .before .before .before .before .before .before .before .slice-known .given i .fits) _ _ _ (sym (ap startOf (c .before .before .before .before .begun .given .1)) ∙ c .before .before .before .before .before .before .begin .ensures)) (c .before .magic-at .ensures) (c .if1 .taken)))
+returns-2 c =
+    set-length-is _ _ _ (file-directory _ _ _
+    (sym (ap startOf (c .before .before .before .before .begun .given .1)) ∙ c .before .before .before .before .before .before .begin .ensures)
+    (no-file (λ i. c .before .before .before .before .before .before .before .before .before .slice-known .given i .fits)
+    (start-object (λ i. c .before .before .before .before .before .before .before .before .before .slice-known .given i .fits) _ _ _
+    (sym (ap startOf (c .before .before .before .before .begun .given .1)) ∙ c .before .before .before .before .before .before .begin .ensures)) (c .before .magic-at .ensures)
+    (c .if1 .taken)))
 
 set-length-of-requires : tie.Need-set-length-of-requires
-set-length-of-requires c κs = object-file (λ i. c .before .before .before .before .before .before .before .before .before .before .slice-known .given i .fits) (start-object (λ i. c .before .before .before .before .before .before .before .before .before .before .slice-known .given i .fits) _ _ _ (sym (ap startOf (c .before .before .before .before .before .begun .given .1)) ∙ c .before .before .before .before .before .before .before .begin .ensures)) (c .before .before .magic-at .ensures) (c .before .if1 .left)
+set-length-of-requires c κs =
+    object-file (λ i. c .before .before .before .before .before .before .before .before .before .before .slice-known .given i .fits)
+    (start-object (λ i. c .before .before .before .before .before .before .before .before .before .before .slice-known .given i .fits) _ _ _
+    (sym (ap startOf (c .before .before .before .before .before .begun .given .1)) ∙ c .before .before .before .before .before .before .before .begin .ensures))
+    (c .before .before .magic-at .ensures) (c .before .if1 .left)
 
 same-length-3 : tie.Need-same-length-3
 same-length-3 c = search needs
 
 returns-3 : tie.Need-returns-3
-returns-3 c = set-length-is _ _ _ (file-reached _ _ _ (sym (ap startOf (c .before .before .before .before .before .before .before .before .begun .given .1)) ∙ c .before .before .before .before .before .before .before .before .before .before .begin .ensures) (object-file (λ i. c .before .before .before .before .before .before .before .before .before .before .before .before .before .slice-known .given i .fits) (start-object (λ i. c .before .before .before .before .before .before .before .before .before .before .before .before .before .slice-known .given i .fits) _ _ _ (sym (ap startOf (c .before .before .before .before .before .before .before .before .begun .given .1)) ∙ c .before .before .before .before .before .before .before .before .before .before .begin .ensures)) (c .before .before .before .before .before .magic-at .ensures) (c .before .before .before .before .if1 .left) .kind) (c .before .before .set-length-of .ensures))
+returns-3 c =
+    set-length-is _ _ _ (file-reached _ _ _
+    (sym (ap startOf (c .before .before .before .before .before .before .before .before .begun .given .1)) ∙
+    c .before .before .before .before .before .before .before .before .before .before .begin .ensures)
+    (object-file (λ i. c .before .before .before .before .before .before .before .before .before .before .before .before .before .slice-known .given i .fits)
+    (start-object (λ i. c .before .before .before .before .before .before .before .before .before .before .before .before .before .slice-known .given i .fits) _ _ _
+    (sym (ap startOf (c .before .before .before .before .before .before .before .before .begun .given .1)) ∙
+    c .before .before .before .before .before .before .before .before .before .before .begin .ensures)) (c .before .before .before .before .before .magic-at .ensures)
+    (c .before .before .before .before .if1 .left) .kind) (c .before .before .set-length-of .ensures))
 
 pub set-length-spec : {M : Type 1} → statement M
 set-length-spec =

@@ -31,7 +31,11 @@ same-length : tie.Need-same-length
 same-length c = search needs
 
 returns : tie.Need-returns
-returns c = make-refused _ _ (newOf (c .before .before .before .before .before .before .before .before .before .args .new)) (c .before .before .before .before .before .allowed .ensures) _ (refused-so (startOf (c .before .before .before .before .begin-above .result)) (c .before .before .before .before .begin-above .ensures) (not-reached (c .before .before .before .before .begin-above .result) (c .before .before .before .match .keys2)) _ (c .before .refusal-of .ensures)) _ _ (c .unmade .ensures .0) (c .unmade .ensures .1)
+returns c =
+    make-refused _ _ (newOf (c .before .before .before .before .before .before .before .before .before .args .new)) (c .before .before .before .before .before .allowed .ensures)
+    _ (refused-so (startOf (c .before .before .before .before .begin-above .result)) (c .before .before .before .before .begin-above .ensures)
+    (not-reached (c .before .before .before .before .begin-above .result) (c .before .before .before .match .keys2)) _ (c .before .refusal-of .ensures)) _ _
+    (c .unmade .ensures .0) (c .unmade .ensures .1)
 
 last-name-requires : tie.Need-last-name-requires
 last-name-requires c κs = search needs
@@ -45,7 +49,12 @@ same-length-2 : tie.Need-same-length-2
 same-length-2 c = search needs
 
 returns-2 : tie.Need-returns-2
-returns-2 c = make-reached _ _ (newOf (c .before .before .before .before .before .before .before .before .before .before .before .before .before .args .new)) (c .before .before .before .before .before .before .before .before .before .allowed .ensures) _ (sym (ap startOf (c .before .before .before .before .before .before .begun .given .1)) ∙ c .before .before .before .before .before .before .before .before .begin-above .ensures) _ (c .before .before .before .last-name .ensures) _ _ _ (c .before .before .make-in .ensures)
+returns-2 c =
+    make-reached _ _ (newOf (c .before .before .before .before .before .before .before .before .before .before .before .before .before .args .new))
+    (c .before .before .before .before .before .before .before .before .before .allowed .ensures) _
+    (sym (ap startOf (c .before .before .before .before .before .before .begun .given .1)) ∙
+    c .before .before .before .before .before .before .before .before .begin-above .ensures) _ (c .before .before .before .last-name .ensures) _ _ _
+    (c .before .before .make-in .ensures)
 
 pub make-spec : {M : Type 1} → statement M
 make-spec =

@@ -24,7 +24,9 @@ same-length : tie.Need-same-length
 same-length c = search needs
 
 returns : tie.Need-returns
-returns c = remove-refused _ _ _ (refused-so (startOf (c .before .before .before .begin-above .result)) (c .before .before .before .begin-above .ensures) (not-reached (c .before .before .before .begin-above .result) (c .before .before .match .keys2)) _ (c .refusal-of .ensures))
+returns c =
+    remove-refused _ _ _ (refused-so (startOf (c .before .before .before .begin-above .result)) (c .before .before .before .begin-above .ensures)
+    (not-reached (c .before .before .before .begin-above .result) (c .before .before .match .keys2)) _ (c .refusal-of .ensures))
 
 last-name-requires : tie.Need-last-name-requires
 last-name-requires c κs = search needs
@@ -36,7 +38,10 @@ same-length-2 : tie.Need-same-length-2
 same-length-2 c = search needs
 
 returns-2 : tie.Need-returns-2
-returns-2 c = remove-reached _ _ _ (sym (ap startOf (c .before .before .before .before .before .before .begun .given .1)) ∙ c .before .before .before .before .before .before .before .before .begin-above .ensures) _ (c .before .before .before .last-name .ensures) _ _ (c .before .before .remove-in .ensures)
+returns-2 c =
+    remove-reached _ _ _ (sym (ap startOf (c .before .before .before .before .before .before .begun .given .1)) ∙
+    c .before .before .before .before .before .before .before .before .begin-above .ensures) _ (c .before .before .before .last-name .ensures) _ _
+    (c .before .before .remove-in .ensures)
 
 pub remove-spec : {M : Type 1} → statement M
 remove-spec =
