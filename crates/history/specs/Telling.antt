@@ -29,6 +29,7 @@ pub record TellsRule (s : List ℕ) (r : Refusal) : Type 0 where
   -- a place is told beside no other number
   pub elsewhere : numberOf r ≤ 20 → placeOf r ≡ 0
 
+-- whatever image of bytes and whatever arguments
 unfoldable pub EveryCallTells : Type 0
 EveryCallTells = (s : List ℕ) → Bytes s → (c : Call) → looks c ≡ true → TellsRule s (step s c .refusal)
 
