@@ -1,5 +1,5 @@
 -- The walk: one slot, one step, and the loop along the components.
-use Prim.Native.Nat.{_+_, _-_, _<_, _≤_, suc, zero, ℕ}
+use Prim.Native.Nat.{_+_, _-_, _<_, _≤_, suc, ℕ}
 use mathlib.Core.Bool.{Bool, _&&_, cond, false, true}
 use mathlib.Core.List.{List, [], _∷_}
 use mathlib.Core.Option.{Option, none, some}
@@ -183,6 +183,20 @@ walked-object {s} h e ws r f = along ws (volumeOf s .root) (root-object h e) f
         by-step blocked d g k = let z : _≡_ {A = ℕ} 0 1 = cc in absurd (omega arith)
         by-step (at p) d g k = k p (step-object h q e w p (sym d)) g
 
+-- where what is looked for first, r with the number n, is none: the image is well formed, and a ref that a walk reaches is an object
+module _ (s path : List ℕ) (allowed : Bool) {r : Refusal} (o : r ≡ opening s path allowed) {n : ℕ} (f : n ≡ numberOf r) (z : n ≡ 0) where
+  opened-so : numberOf (opening s path allowed) ≡ 0
+  opened-so = ap numberOf (sym o) ∙ sym f ∙ z
+
+  pub opened-formed : wellFormed s ≡ true
+  opened-formed = opened s path allowed opened-so .0
+
+  pub opened-valid : validPath path ≡ true
+  opened-valid = opened s path allowed opened-so .1
+
+  pub opened-object : AllBytes s → (ws : List (List ℕ)) (q : ℕ) → reached q ≡ walkFrom s ws → ObjectAt s q
+  opened-object h = walked-object h opened-formed
+
 pub start-object : {s : List ℕ} → AllBytes s → (path : List ℕ) (allowed : Bool) (r : ℕ) → reached r ≡ start s path allowed → ObjectAt s r
 unfolding start
 start-object {s} h path allowed r f =
@@ -213,7 +227,7 @@ module _ (s path : List ℕ) (allowed : Bool) (top : Reason) {b : Refusal} (o : 
       came : (x : Start) → x ≡ walkFrom s (components p) → asDirectory s x ≡ startAbove s path allowed top
       came x e =
           passed (go (components path) (λ u. y (c ∙ u))
-          (e ∙ ap (λ (u : List ℕ). walkFrom s (components u)) q ∙ ap (walkFrom s) (directory-components path (opened s path allowed (ap numberOf (sym o) ∙ sym f ∙ z) .1))))
+          (e ∙ ap (λ (u : List ℕ). walkFrom s (components u)) q ∙ ap (walkFrom s) (directory-components path (opened-valid s path allowed o f z))))
         where
           go : (ws : List (List ℕ)) → (length ws ≡ 0 → ⊥) → x ≡ walkFrom s (allButLast ws) → asDirectory s x ≡ aboveLast s top ws
           go [] u f = absurd (u refl)

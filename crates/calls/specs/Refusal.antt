@@ -53,6 +53,7 @@ placeOf Accepted = 0
 placeOf (Broken n r) = r .0
 placeOf (For w) = 0
 
+-- a call is accepted where its number is 0
 abbrev pub accepted : Refusal → Bool
 accepted r = eqb (numberOf r) 0
 

@@ -10,7 +10,6 @@ use storage::Pos;
 use storage::Ref;
 use tree::fields;
 ghost use mathlib.Core.Path.{_≡_};
-ghost use Rattle.alloc.specs.Volume.{volumeOf, objects};
 ghost use Rattle.calls.specs.Reading as spec;
 ghost use Rattle.calls.specs.Reading.{kindOf, blockIn};
 ghost use Rattle.calls.specs.Answers.{kindIs, foundOf, ObjectAt, FileIn, Reads, Copies, Points};

@@ -1,5 +1,5 @@
 -- What the tree of a good image has where a walk leads, and images of changed volumes that are good again.
-use Prim.Native.Nat.{_<_, _≤_, suc, ℕ}
+use Prim.Native.Nat.{_<_, _≤_, ℕ}
 use mathlib.Core.Bool.{Bool, cond, true, true≢false}
 use mathlib.Core.List.{List}
 use mathlib.Core.Option.{Option, some}

@@ -1,10 +1,9 @@
 -- begin: refused first, or the walk.
 use Rattle.calls.proofs.walk.begin.Tie as tie
-use mathlib.Core.Path.{_∙_, ap, sym}
+use mathlib.Core.Path.{_∙_}
 use borrow.Author.Needs.{needs}
-use Rattle.calls.specs.Refusal.{numberOf}
 use Rattle.calls.specs.Walk.{start}
-use Rattle.calls.proofs.Steps.{opened, or-passed, or-refused}
+use Rattle.calls.proofs.Steps.{opened-formed, or-passed, or-refused}
 use Rattle.calls.proofs.walk.begin.Statement.{statement}
 
 opening-requires : tie.Need-opening-requires
@@ -18,7 +17,7 @@ unfolding start
 returns c = or-refused _ _ (c .before .before .opening .ensures) (c .before .number .ensures) (c .if1 .taken)
 
 walk-from-requires : tie.Need-walk-from-requires
-walk-from-requires c κs = opened _ _ _ (ap numberOf (sym (c .before .before .opening .ensures)) ∙ sym (c .before .number .ensures) ∙ c .if1 .left) .0
+walk-from-requires c κs = opened-formed _ _ _ (c .before .before .opening .ensures) (c .before .number .ensures) (c .if1 .left)
 
 returns-2 : tie.Need-returns-2
 unfolding start

@@ -3,11 +3,11 @@ use Rattle.calls.proofs.walk.begin_above.Tie as tie
 use mathlib.Core.Path.{_∙_, ap, sym}
 use native.Mathlib.Omega.{arith}
 use borrow.Author.Needs.{needs}
+use Rattle.storage.proofs.Numbers.{AllBytes}
 use Rattle.calls.specs.Answers.{startOf}
-use Rattle.calls.specs.Refusal.{numberOf}
 use Rattle.calls.proofs.Outcomes.{not-reached}
 use Rattle.calls.proofs.Stands.{no-directory, object-at, object-directory}
-use Rattle.calls.proofs.Steps.{above-directory, above-file, above-first, above-refused, above-root, opened, walked-object}
+use Rattle.calls.proofs.Steps.{above-directory, above-file, above-first, above-refused, above-root, opened-formed, opened-object}
 use Rattle.calls.proofs.walk.begin_above.Statement.{statement}
 
 opening-requires : tie.Need-opening-requires
@@ -31,9 +31,7 @@ directory-requires : tie.Need-directory-requires
 directory-requires c κs = search needs
 
 walk-from-requires : tie.Need-walk-from-requires
-walk-from-requires c κs =
-    opened _ _ _ (ap numberOf (sym (c .before .before .before .before .before .opening .ensures)) ∙ sym (c .before .before .before .before .number .ensures) ∙
-    c .before .before .before .if1 .left) .0
+walk-from-requires c κs = opened-formed _ _ _ (c .before .before .before .before .before .opening .ensures) (c .before .before .before .before .number .ensures) (c .before .before .before .if1 .left)
 
 enum-known-begun : tie.Need-enum-known-begun
 enum-known-begun c = search needs
@@ -54,44 +52,29 @@ returns-3 c =
 
 magic-at-requires : tie.Need-magic-at-requires
 magic-at-requires c κs =
-    omega (
-      arith,
-      object-at (λ i. c .before .before .before .before .before .before .before .before .before .before .before .shared-slice-known .given i .fits)
-          (walked-object (λ i. c .before .before .before .before .before .before .before .before .before .before .before .shared-slice-known .given i .fits)
-          (opened _ _ _ (ap numberOf (sym (c .before .before .before .before .before .before .before .before .before .opening .ensures)) ∙ sym
-          (c .before .before .before .before .before .before .before .before .number .ensures) ∙ c .before .before .before .before .before .before .before .if1 .left) .0) _ _
-          (sym (ap startOf (c .before .begun .given .1)) ∙ c .before .before .before .walk-from .ensures)) .standing .fits,
-    )
+    let p = c .before .before .before .before .before in
+    let h : AllBytes (p .before .before .before .before .before .before .before .args .image .now) = λ i. p .before .before .before .before .before .before .shared-slice-known .given i .fits in
+    let o = opened-object _ _ _ (p .before .before .before .before .opening .ensures) (p .before .before .before .number .ensures) (p .before .before .if1 .left) h _ _
+    (sym (ap startOf (c .before .begun .given .1)) ∙ c .before .before .before .walk-from .ensures) in
+    omega (arith, object-at h o .standing .fits)
 
 returns-4 : tie.Need-returns-4
 returns-4 c =
-    above-file _ _ _ _ (c .before .before .before .before .before .before .before .before .before .before .before .opening .ensures)
-    (c .before .before .before .before .before .before .before .before .before .before .number .ensures)
-    (c .before .before .before .before .before .before .before .before .before .if1 .left) (c .before .before .before .before .before .before .before .before .count .ensures)
-    (c .before .before .before .before .before .before .before .if2 .left) _ (c .before .before .before .before .before .before .directory .ensures) _
-    (sym (ap startOf (c .before .before .before .begun .given .1)) ∙ c .before .before .before .before .before .walk-from .ensures)
-    (no-directory (λ i. c .before .before .before .before .before .before .before .before .before .before .before .before .before .shared-slice-known .given i .fits)
-    (walked-object (λ i. c .before .before .before .before .before .before .before .before .before .before .before .before .before .shared-slice-known .given i .fits)
-    (opened _ _ _ (ap numberOf (sym (c .before .before .before .before .before .before .before .before .before .before .before .opening .ensures)) ∙ sym
-    (c .before .before .before .before .before .before .before .before .before .before .number .ensures) ∙
-    c .before .before .before .before .before .before .before .before .before .if1 .left) .0) _ _
-    (sym (ap startOf (c .before .before .before .begun .given .1)) ∙ c .before .before .before .before .before .walk-from .ensures)) (c .before .magic-at .ensures)
-    (c .if3 .taken))
+    let p = c .before .before .before .before .before .before .before in
+    let h : AllBytes (p .before .before .before .before .before .before .before .args .image .now) = λ i. p .before .before .before .before .before .before .shared-slice-known .given i .fits in
+    let e = sym (ap startOf (c .before .before .before .begun .given .1)) ∙ c .before .before .before .before .before .walk-from .ensures in
+    let o = opened-object _ _ _ (p .before .before .before .before .opening .ensures) (p .before .before .before .number .ensures) (p .before .before .if1 .left) h _ _ e in
+    above-file _ _ _ _ (p .before .before .before .before .opening .ensures) (p .before .before .before .number .ensures) (p .before .before .if1 .left)
+    (p .before .count .ensures) (p .if2 .left) _ (c .before .before .before .before .before .before .directory .ensures) _ e (no-directory h o (c .before .magic-at .ensures) (c .if3 .taken))
 
 returns-5 : tie.Need-returns-5
 returns-5 c =
-    above-directory _ _ _ _ (c .before .before .before .before .before .before .before .before .before .before .before .opening .ensures)
-    (c .before .before .before .before .before .before .before .before .before .before .number .ensures)
-    (c .before .before .before .before .before .before .before .before .before .if1 .left) (c .before .before .before .before .before .before .before .before .count .ensures)
-    (c .before .before .before .before .before .before .before .if2 .left) _ (c .before .before .before .before .before .before .directory .ensures) _
-    (sym (ap startOf (c .before .before .before .begun .given .1)) ∙ c .before .before .before .before .before .walk-from .ensures)
-    (object-directory (λ i. c .before .before .before .before .before .before .before .before .before .before .before .before .before .shared-slice-known .given i .fits)
-    (walked-object (λ i. c .before .before .before .before .before .before .before .before .before .before .before .before .before .shared-slice-known .given i .fits)
-    (opened _ _ _ (ap numberOf (sym (c .before .before .before .before .before .before .before .before .before .before .before .opening .ensures)) ∙ sym
-    (c .before .before .before .before .before .before .before .before .before .before .number .ensures) ∙
-    c .before .before .before .before .before .before .before .before .before .if1 .left) .0) _ _
-    (sym (ap startOf (c .before .before .before .begun .given .1)) ∙ c .before .before .before .before .before .walk-from .ensures)) (c .before .magic-at .ensures)
-    (c .if3 .left) .kind)
+    let p = c .before .before .before .before .before .before .before in
+    let h : AllBytes (p .before .before .before .before .before .before .before .args .image .now) = λ i. p .before .before .before .before .before .before .shared-slice-known .given i .fits in
+    let e = sym (ap startOf (c .before .before .before .begun .given .1)) ∙ c .before .before .before .before .before .walk-from .ensures in
+    let o = opened-object _ _ _ (p .before .before .before .before .opening .ensures) (p .before .before .before .number .ensures) (p .before .before .if1 .left) h _ _ e in
+    above-directory _ _ _ _ (p .before .before .before .before .opening .ensures) (p .before .before .before .number .ensures) (p .before .before .if1 .left)
+    (p .before .count .ensures) (p .if2 .left) _ (c .before .before .before .before .before .before .directory .ensures) _ e (object-directory h o (c .before .magic-at .ensures) (c .if3 .left) .kind)
 
 pub begin-above-spec : {M : Type 1} → statement M
 begin-above-spec =
