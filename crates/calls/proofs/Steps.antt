@@ -140,7 +140,7 @@ module _ (s path : List ℕ) (allowed : Bool) where
       opening-none g = sym (rw (e, f, g, opening))
 
   pub opened : numberOf (opening s path allowed) ≡ 0 → (wellFormed s ≡ true) × (validPath path ≡ true) × (allowed ≡ true)
-  unfolding opening check
+  unfolding opening check wellFormed verdict
   opened e = go (wellFormed s) (validPath path) allowed refl refl refl e
     where
       go : (a b c : Bool) → wellFormed s ≡ a → validPath path ≡ b → allowed ≡ c

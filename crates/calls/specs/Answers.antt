@@ -20,6 +20,7 @@ use Rattle.calls.specs.declared.walk.Start.the-variants.{Refused, Reache
 use Rattle.calls.specs.declared.reading.Kind as declared-kind
 use Rattle.calls.specs.declared.reading.Kind.the-variants.{File, Directory}
 use Rattle.calls.specs.declared.reading.Found as declared-found
+use Rattle.calls.specs.Refusal.{Checked}
 use Rattle.calls.specs.Walk.{Walk, missing, blocked, at, Start, refused, reached}
 use Rattle.calls.specs.Reading.{Kind, file, directory, Found, Read, Point, copied, blockIn}
 
@@ -91,3 +92,8 @@ pub record Copies (s : List ℕ) (r position : ℕ) (before : List ℕ) (count :
 pub record Points (p : Point) (refusal : Refusal) (bytes : List ℕ) : Type 0 where
   pub refusal-is : refusal ≡ p .refusal
   pub bytes-is : bytes ≡ p .bytes
+
+-- check with marks: the refusal, and the marks then
+pub record Checks (x : Checked) (r : Refusal) (m : List ℕ) : Type 0 where
+  pub refusal-is : r ≡ x .refusal
+  pub marks-are : m ≡ x .marks

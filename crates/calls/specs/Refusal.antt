@@ -1,12 +1,15 @@
 -- Refusals, document 01's numbers for them, and the place of document 02's #101.
-use Prim.Native.Nat.{ℕ, _+_}
+use Prim.Native.Nat.{ℕ, _+_, _/_}
 use mathlib.Core.List.{List}
 use mathlib.Core.Bool.{Bool, cond}
-use lib.Dec.{eqb}
-use Rattle.tree.specs.Verdict.{Verdict, verdict, wellFormed}
+use lib.Dec.{eqb, ltb}
+use lib.ListN.{length}
+use Rattle.storage.specs.Bytes.{splice}
+use Rattle.tree.specs.Verdict.{Verdict, verdict}
+use Rattle.tree.specs.Marks.{marksAfter}
 use Rattle.calls.specs.declared.refusal.Reason.{Reason}
 use Rattle.calls.specs.declared.refusal.Reason.the-variants.{BadLength, BadPath, NotFound, NotDirectory, IsDirectory, Exists, NoSlot}
-use Rattle.calls.specs.declared.refusal.Reason.the-variants.{NoRoom, NotEmpty, OutOfBounds, IsRoot, PastRoom, PastEnd, TooFewLines}
+use Rattle.calls.specs.declared.refusal.Reason.the-variants.{NoRoom, NotEmpty, OutOfBounds, IsRoot, PastRoom, PastEnd, TooFewLines, TooFewMarks}
 use Rattle.calls.specs.declared.refusal.Refusal.{Refusal}
 use Rattle.calls.specs.declared.refusal.Refusal.the-variants.{Accepted, Broken, For}
 
@@ -40,6 +43,8 @@ reasonNumber PastRoom = 12
 reasonNumber PastEnd = 13
 -- fewer lines lent than objects
 reasonNumber TooFewLines = 14
+-- check with marks: fewer marks lent than the image has units
+reasonNumber TooFewMarks = 17
 
 -- 0 is done
 abbrev pub numberOf : Refusal → ℕ
@@ -61,6 +66,20 @@ accepted r = eqb (numberOf r) 0
 abbrev pub broken : Verdict → Refusal
 broken v = Broken (20 + v .rule) (record { 0 = v .place })
 
+abbrev pub refusalOf : Verdict → Refusal
+refusalOf v = cond (eqb (v .rule) 0) Accepted (broken v)
+
 -- ---- check: the image's own refusal, which every call that looks at the image begins with
 unfoldable pub check : List ℕ → Refusal
-check s = cond (wellFormed s) Accepted (broken (verdict s))
+check s = refusalOf (verdict s)
+
+-- ---- check with marks: its refusal, and the lent marks then
+pub record Checked : Type 0 where
+  pub refusal : Refusal
+  pub marks : List ℕ
+
+-- one mark for each 16-byte unit is needed; those past the image's units stay
+unfoldable pub checkMarked : List ℕ → List ℕ → Checked
+checkMarked s m =
+    cond (ltb (length m) (length s / 16)) (record { refusal = For TooFewMarks; marks = m })
+    (record { refusal = check s; marks = splice m 0 (marksAfter s) })

@@ -20,6 +20,7 @@ pub enum Reason {
     PastRoom,
     PastEnd,
     TooFewLines,
+    TooFewMarks,
 }
 
 // A call is accepted, or the image breaks a rule (the number, 21 to 28, and the first block that breaks it), or it is refused for another reason.
@@ -48,6 +49,7 @@ fn reason_number(w: Reason) -> u8
         Reason::PastRoom => 12,
         Reason::PastEnd => 13,
         Reason::TooFewLines => 14,
+        Reason::TooFewMarks => 17,
     }
 }
 

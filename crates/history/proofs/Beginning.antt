@@ -11,7 +11,7 @@ use Rattle.tree.specs.Fields.{isDir}
 use Rattle.tree.specs.Verdict.{verdict, wellFormed}
 use Rattle.calls.specs.declared.refusal.Reason.{Reason}
 use Rattle.calls.specs.declared.refusal.Reason.the-variants.{BadLength, BadPath, Exists, IsDirectory, IsRoot, NoRoom, NoSlot}
-use Rattle.calls.specs.declared.refusal.Reason.the-variants.{NotDirectory, NotEmpty, NotFound, OutOfBounds, PastEnd, PastRoom, TooFewLines}
+use Rattle.calls.specs.declared.refusal.Reason.the-variants.{NotDirectory, NotEmpty, NotFound, OutOfBounds, PastEnd, PastRoom, TooFewLines, TooFewMarks}
 use Rattle.calls.specs.declared.refusal.Refusal.{Refusal}
 use Rattle.calls.specs.declared.refusal.Refusal.the-variants.{Accepted, For}
 use Rattle.calls.specs.Refusal.{accepted, broken, check, numberOf, reasonNumber}
@@ -38,6 +38,7 @@ reason-bounds IsRoot = omega arith
 reason-bounds PastRoom = omega arith
 reason-bounds PastEnd = omega arith
 reason-bounds TooFewLines = omega arith
+reason-bounds TooFewMarks = omega arith
 
 -- it is not accepted
 pub refuses : {s : List ℕ} {r : Refusal} → Refuses s r → accepted r ≡ false
@@ -47,7 +48,7 @@ refuses (by-reason e w) = ne-eqb (reasonNumber w) 0 (λ z. omega (arith, reason-
 module _ (C : Start → Type 0) (s path : List ℕ) (allowed : Bool) (f : (r : Refusal) → Refuses s r → C (refused r)) where
   -- what is looked for first, and then what follows
   first : (x : Start) → (wellFormed s ≡ true → validPath path ≡ true → allowed ≡ true → C x) → C (orRefused (opening s path allowed) x)
-  unfolding opening check
+  unfolding opening check wellFormed verdict
   first x g = looking (wellFormed s) (validPath path) allowed refl refl refl
     where
       looking : (a b c : Bool) → wellFormed s ≡ a → validPath path ≡ b → allowed ≡ c

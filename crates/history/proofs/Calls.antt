@@ -10,7 +10,7 @@ use mathlib.Core.Option.{Option, some}
 use mathlib.Core.Path.{_≡_, refl, subst, sym}
 use Rattle.history.specs.Listing.{list}
 use Rattle.history.specs.Book.{Tree, emptySlots}
-use Rattle.history.specs.History.{Call, booked, check, find, format, history, listing, make, read, readPoint, remove, setLength, step, write}
+use Rattle.history.specs.History.{Call, booked, check, checkMarked, find, format, history, listing, make, read, readPoint, remove, setLength, step, write}
 use Rattle.history.proofs.BytesStep.{length-kept, write-kept, write-none}
 use Rattle.history.proofs.FormatStep.{format-same, formatted-good}
 use Rattle.history.proofs.Good.{Good}
@@ -42,6 +42,7 @@ pub kept : (n : ℕ) (s : List ℕ) (t : Tree) (c : Call) → Good n s t → Lef
 unfolding step booked
 kept n s t (format k) g = format-kept g k
 kept n s t check g = unchanging g (accepted (refusal.check s))
+kept n s t (checkMarked marks) g = unchanging g (accepted (refusal.checkMarked s marks .refusal))
 kept n s t (find p) g = unchanging g (accepted (reading.find s p .refusal))
 kept n s t (make p new) g = make-kept g p new
 kept n s t (read p position buffer) g = unchanging g (accepted (reading.read s p position buffer .refusal))

@@ -1,9 +1,9 @@
--- Every call but format tells the lowest-numbered broken rule and its first breaker, and a place beside no other number.
+-- Every call that looks at the image tells the lowest-numbered broken rule and its first breaker, and a place beside no other number.
 use Rattle.changes.specs.Changing as changing
 use Rattle.calls.specs.Reading as reading
 use Rattle.calls.specs.Refusal as refusal
 use Rattle.history.specs.Listing as listings
-use Prim.Native.Nat.{_*_, _+_, suc, ℕ}
+use Prim.Native.Nat.{_*_, _+_, _/_, suc, ℕ}
 use mathlib.Core.Bool.{Bool, cond, false, true, true≢false}
 use mathlib.Core.List.{List, [], _++_, _∷_}
 use mathlib.Core.Option.{Option, none, some}
@@ -11,7 +11,7 @@ use mathlib.Core.Path.{_∙_, _≡_, ap, refl, subst, sym}
 use native.Mathlib.Omega.{arith}
 use lib.Dec.{eqb, leb}
 use lib.ListN.{drop, length}
-use borrow.Author.Tests.{eq-eqb, ne-eqb}
+use borrow.Author.Tests.{eq-eqb, le-ltb, leb-false, leb-true, lt-ltb, ne-eqb}
 use Rattle.alloc.specs.Block.{units}
 use Rattle.alloc.specs.Room.{PlacedPair, placePair}
 use Rattle.alloc.specs.Tiling.{lengthAllowed, within}
@@ -29,8 +29,8 @@ use Rattle.calls.specs.Reading.{blockIn}
 use Rattle.calls.specs.Walk.{emptySlot, lastName, slotNamed}
 use Rattle.changes.specs.Changing.{New, newBlock, newDirectory, newName, setSlot, unchanged, unmade, withRoot}
 use Rattle.history.specs.Claim.{Bytes}
-use Rattle.history.specs.History.{Call, check, find, format, listing, make, read, readPoint, remove, setLength, step, write}
-use Rattle.history.specs.Telling.{EveryCallTells, FormatTellsNone, TellsRule, looks}
+use Rattle.history.specs.History.{Call, check, checkMarked, find, format, listing, make, read, readPoint, remove, setLength, step, write}
+use Rattle.history.specs.Telling.{EveryCallTells, OthersTellNone, TellsRule, looks}
 use Rattle.history.proofs.Beginning.{Refuses, above-cases, by-image, by-reason, reason-bounds, start-cases}
 use Rattle.history.proofs.FormatStep.{byTests, format-is}
 
@@ -82,7 +82,7 @@ module _ (s : List ℕ) where
   begins r w = refuses w
 
   check-says : Says s (refusal.check s)
-  unfolding refusal.check
+  unfolding refusal.check wellFormed
   check-says = go (wellFormed s) refl
     where
       go : (q : Bool) → wellFormed s ≡ q → Says s (cond q Accepted (broken (verdict s)))
@@ -168,10 +168,11 @@ module _ (s : List ℕ) where
       by-image-first false e = check-says
       by-image-first true e = by-lines e (leb (length (listings.linesOf s)) (length lent))
 
-  says : (c : Call) → looks c ≡ true → Says s (step s c .refusal)
-  unfolding step reading.find reading.read reading.readPoint changing.make changing.write changing.setLength changing.remove
+  says : (c : Call) → looks s c ≡ true → Says s (step s c .refusal)
+  unfolding step refusal.checkMarked reading.find reading.read reading.readPoint changing.make changing.write changing.setLength changing.remove
   says (format k) l = absurd (true≢false (sym l))
   says check l = check-says
+  says (checkMarked marks) l = rw (le-ltb (length marks) (length s / 16) (leb-true (length s / 16) (length marks) l)) check-says
   says (find p) l = start-cases (λ x. Says s (reading.foundAt s x .refusal)) s p true begins (λ r h v a e. accepts h)
   says (make p new) l =
       above-cases (λ x. Says s (changing.makeAt s new (lastName p) x .refusal)) s p (changing.allowed new) begins Exists
@@ -201,9 +202,8 @@ pub every-call-tells : EveryCallTells
 unfolding EveryCallTells
 every-call-tells s h c l = tells s h (says s c l)
 
-pub format-tells-none : FormatTellsNone
-unfolding FormatTellsNone step
-format-tells-none s k =
+format-none : (s : List ℕ) (k : ℕ) → placeOf (changing.format s k .refusal) ≡ 0
+format-none s k =
     subst (λ (o : changing.Outcome). placeOf (o .refusal) ≡ 0) (sym (format-is s k))
     (go (lengthAllowed (length s)) (within 1 1024 k) (leb (32 + 16 * units (newDirectory 2 k)) (length s)))
   where
@@ -212,3 +212,17 @@ format-tells-none s k =
     go true false z = refl
     go true true false = refl
     go true true true = refl
+
+pub others-tell-none : OthersTellNone
+unfolding OthersTellNone step refusal.checkMarked
+others-tell-none s (format k) l = format-none s k
+others-tell-none s check l = absurd (true≢false l)
+others-tell-none s (checkMarked marks) l = rw (lt-ltb (length marks) (length s / 16) (leb-false (length s / 16) (length marks) l)) refl
+others-tell-none s (find p) l = absurd (true≢false l)
+others-tell-none s (make p new) l = absurd (true≢false l)
+others-tell-none s (read p position buffer) l = absurd (true≢false l)
+others-tell-none s (readPoint p n) l = absurd (true≢false l)
+others-tell-none s (write p position bytes) l = absurd (true≢false l)
+others-tell-none s (setLength p n) l = absurd (true≢false l)
+others-tell-none s (remove p) l = absurd (true≢false l)
+others-tell-none s (listing lent) l = absurd (true≢false l)

@@ -14,10 +14,11 @@ use Rattle.changes.specs.Changing.{Outcome, Made, New}
 use Rattle.history.specs.Listing.{Line, list}
 use Rattle.history.specs.Book.{Tree, emptySlots, inDirectory, added, changed, emptied, written, resized}
 
--- every call, with its arguments as values: a read's buffer and a listing's lines as they are lent
+-- every call, with its arguments as values: a check's marks, a read's buffer and a listing's lines as they are lent
 pub data Call : Type 0 where
   format : ℕ → Call
   check : Call
+  checkMarked : List ℕ → Call
   find : List ℕ → Call
   make : List ℕ → New → Call
   read : List ℕ → ℕ → List ℕ → Call
@@ -44,6 +45,7 @@ madeBy m = answered (m .refusal) (m .image)
 unfoldable pub step : List ℕ → Call → Step
 step s (format k) = changedBy (changing.format s k)
 step s check = answered (refusal.check s) s
+step s (checkMarked marks) = answered (refusal.checkMarked s marks .refusal) s
 step s (find p) = answered (reading.find s p .refusal) s
 step s (make p new) = madeBy (changing.make s p new)
 step s (read p position buffer) = answered (reading.read s p position buffer .refusal) s
@@ -61,6 +63,7 @@ atLast f p t = elim (components p) [ [] ↦ none | w ∷ ws ↦ inDirectory (all
 unfoldable pub booked : Tree → Call → Option Tree
 booked t (format k) = some (emptySlots k)
 booked t check = some t
+booked t (checkMarked marks) = some t
 booked t (find p) = some t
 booked t (make p new) = atLast (λ w. added w new) p t
 booked t (read p position buffer) = some t

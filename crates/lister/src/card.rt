@@ -4,6 +4,7 @@ use crate::line;
 use calls::refusal;
 use calls::refusal::Refusal;
 use listing::seek;
+use listing::seek::Cursor;
 use listing::seek::Seen;
 ghost use mathlib.Core.Path.{_≡_};
 ghost use mathlib.Core.Bool.{true};
@@ -21,15 +22,18 @@ fn refuse(r: Refusal) {
     show::say(b"\n");
 }
 
-// Line `i`.
-fn show_line(image: &[u8], i: u64, names: &mut [u64; 17])
+// The next line; and where the listing goes on.
+fn show_line(image: &[u8], c: Cursor, names: &mut [u64; 17]) -> Cursor
     requires { ⌜ wellFormed (now image) ≡ true ⌝ }
 {
-    let seen = seek::line(image, i);
+    let step = seek::next(image, c);
+    let seen = step.seen;
+    let cursor = step.cursor;
     let Seen::Here(l) = seen else {
-        return;
+        return cursor;
     };
     line::say(image, l, names);
+    cursor
 }
 
 // Every line.
@@ -38,9 +42,10 @@ fn show_lines(image: &[u8])
 {
     let mut names = [0u64; 17];
     let n = seek::count(image);
+    let mut c = seek::start();
     let mut i: u64 = 0;
     while i < n {
-        show_line(image, i, &mut names);
+        c = show_line(image, c, &mut names);
         i += 1;
     }
 }

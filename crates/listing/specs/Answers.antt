@@ -30,17 +30,6 @@ abbrev pub seenOf : Seen → Sought
 seenOf (Here l) = here (lineIs l)
 seenOf (Past n) = past n
 
--- line i of a row
-unfoldable pub nth : List Line → ℕ → Sought
-nth [] i = past i
-nth (l ∷ ls) zero = here l
-nth (l ∷ ls) (suc i) = nth ls i
-
--- the lines of the slots of the directory at ref d, from slot j on; an object there has this depth, and so many levels below it
-abbrev pub linesBelow : List ℕ → ℕ → ℕ → ℕ → ℕ → List Line
-linesBelow s d depth levels j =
-    slotLines (λ m o. objectLines levels (objects (volumeOf s)) o d m depth) (slotsFrom (blockIn s d) j (total (blockIn s d) - j))
-
 -- ---- the call
 
 -- a line as it is stored

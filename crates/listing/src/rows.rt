@@ -2,6 +2,7 @@
 
 use crate::lines::Line;
 use crate::seek;
+use crate::seek::Cursor;
 use crate::seek::Seen;
 use calls::reading::Kind;
 use calls::refusal;
@@ -10,14 +11,14 @@ use calls::refusal::Refusal;
 use storage::Ref;
 ghost use mathlib.Core.Path.{_≡_};
 ghost use mathlib.Core.Bool.{cond, true};
-ghost use mathlib.Core.List.{map};
+ghost use mathlib.Core.List.{_∷_, map};
 ghost use Prim.Native.Nat.{_<_};
 ghost use lib.ListN.{length};
 ghost use Rattle.tree.specs.Verdict.{wellFormed};
 ghost use Rattle.calls.specs.Refusal.{accepted};
-ghost use Rattle.listing.specs.Answers.{lineIs, lineNo, filled, Fillable, AnswersFor, Lists};
+ghost use Rattle.listing.specs.Answers.{lineIs, filled, Fillable, AnswersFor, Lists};
+ghost use Rattle.listing.specs.Cursors.{linesFrom};
 ghost use Rattle.history.specs.Listing as spec;
-ghost use Rattle.history.specs.Listing.{linesOf};
 
 // The refusal, and how many lines the image has.
 pub struct Listed {
@@ -25,22 +26,31 @@ pub struct Listed {
     pub count: u64,
 }
 
-// Line `i`.
-pub fn line_at(image: &[u8], i: usize) -> Line
-    requires { ⌜ (wellFormed (now image) ≡ true) × (i < length (linesOf (now image))) ⌝ }
-    ensures { λ l. ⌜ l ≡ lineNo (now (image .entry)) i ⌝ }
+// A line, and where the listing goes on.
+pub struct Told {
+    pub line: Line,
+    pub cursor: Cursor,
+}
+
+// The next line, where there is one.
+pub fn line_at(image: &[u8], c: Cursor) -> Told
+    requires { ⌜ (wellFormed (now image) ≡ true) × (0 < length (linesFrom (now image) (c .slots))) ⌝ }
+    ensures { λ t. ⌜ linesFrom (now (image .entry)) (c .slots) ≡ lineIs (t .line) ∷ linesFrom (now (image .entry)) (t .cursor .slots) ⌝ }
 {
-    let seen = seek::line(image, i as u64);
+    let step = seek::next(image, c);
+    let seen = step.seen;
+    let cursor = step.cursor;
     let Seen::Here(line) = seen else {
-        return Line {
+        let none = Line {
             at: Ref(0),
             parent: Ref(0),
             name: Ref(0),
             depth: 0,
             kind: Kind::File { size: 0, room: 0 },
         };
+        return Told { line: none, cursor };
     };
-    line
+    Told { line, cursor }
 }
 
 // The answer where so many lines are lent.
@@ -78,15 +88,17 @@ pub fn to_fill(a: Listed) -> usize
     a.count as usize
 }
 
-// The first `n` lines. Each is looked for from the root.
+// The first `n` lines.
 fn fill(image: &[u8], lines: &mut [Line], n: usize)
     requires { ⌜ Fillable (now image) n (length (now lines)) ⌝ }
     ensures { λ _. ⌜ now (lines .exit) ≡ filled (now (image .entry)) n (now (lines .entry)) ⌝ }
 {
+    let mut c = seek::start();
     let mut i: usize = 0;
     while i < n {
-        let v = line_at(image, i);
-        lines[i] = v;
+        let told = line_at(image, c);
+        lines[i] = told.line;
+        c = told.cursor;
         i = i + 1;
     }
 }
