@@ -6,6 +6,7 @@ use calls::refusal::Refusal;
 use listing::seek;
 use listing::seek::Cursor;
 use listing::seek::Seen;
+use listing::walk;
 ghost use mathlib.Core.Path.{_≡_};
 ghost use mathlib.Core.Bool.{true};
 ghost use Rattle.tree.specs.Verdict.{wellFormed};
@@ -41,7 +42,7 @@ fn show_lines(image: &[u8])
     requires { ⌜ wellFormed (now image) ≡ true ⌝ }
 {
     let mut names = [0u64; 17];
-    let n = seek::count(image);
+    let n = walk::count(image);
     let mut c = seek::start();
     let mut i: u64 = 0;
     while i < n {

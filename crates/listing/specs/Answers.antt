@@ -3,6 +3,7 @@ use Prim.Native.Nat.{_-_, _<_, _≤_, suc, zero, ℕ}
 use mathlib.Core.List.{List, [], _++_, _∷_, map}
 use mathlib.Core.Path.{_≡_}
 use mathlib.Core.Bool.{true}
+use mathlib.Core.Option.{Option, none, some}
 use lib.ListN.{drop, getD, length}
 use Rattle.storage.specs.declared.Ref.{Ref}
 use Rattle.alloc.specs.Volume.{volumeOf, objects}
@@ -15,20 +16,16 @@ use Rattle.calls.specs.Answers.{kindIs}
 use Rattle.calls.specs.Reading.{Kind, file, directory, blockIn}
 use Rattle.listing.specs.declared.lines.Line as declared-line
 use Rattle.listing.specs.declared.seek.Seen.{Seen}
-use Rattle.listing.specs.declared.seek.Seen.the-variants.{Here, Past}
+use Rattle.listing.specs.declared.seek.Seen.the-variants.{Here, Nothing}
 use Rattle.history.specs.Listing.{Line, Listed, slotLines, objectLines, linesOf, list}
 
 abbrev pub lineIs : declared-line.Line → Line
 lineIs l = record { ref = l .at .0; parent = l .parent .0; name = l .name .0; depth = l .depth; kind = kindIs (l .kind) }
 
--- a line that is looked for, or how many are still to be passed
-pub data Sought : Type 0 where
-  here : Line → Sought
-  past : ℕ → Sought
-
-abbrev pub seenOf : Seen → Sought
-seenOf (Here l) = here (lineIs l)
-seenOf (Past n) = past n
+-- a line, or none
+abbrev pub seenOf : Seen → Option Line
+seenOf (Here l) = some (lineIs l)
+seenOf Nothing = none
 
 -- ---- the call
 

@@ -4,6 +4,7 @@ use crate::lines::Line;
 use crate::seek;
 use crate::seek::Cursor;
 use crate::seek::Seen;
+use crate::walk;
 use calls::reading::Kind;
 use calls::refusal;
 use calls::refusal::Reason;
@@ -64,7 +65,7 @@ pub fn answer(image: &[u8], lent: usize) -> Listed
             count: 0,
         };
     }
-    let count = seek::count(image);
+    let count = walk::count(image);
     if (lent as u64) < count {
         return Listed {
             refusal: Refusal::For(Reason::TooFewLines),

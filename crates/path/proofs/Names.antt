@@ -2,7 +2,7 @@
 use Prim.Native.Nat.{ℕ, zero, suc, _-_, _≤_, _<_}
 use mathlib.Core.List.{List, [], _∷_}
 use mathlib.Core.Path.{_≡_, refl, ap, sym, _∙_}
-use mathlib.Core.Bool.{Bool, false, _&&_, not}
+use mathlib.Core.Bool.{Bool, false, true, _&&_, not}
 use mathlib.Core.Option.{Option, none, some}
 use native.Mathlib.Omega.{arith}
 use native.Mathlib.Numerals.{sub-one}
@@ -78,6 +78,11 @@ module _ (b : ℕ) where
       rw (le-ltb b 0x80 (omega arith), le-leb 0xc0 b (omega arith), lt-leb b 0xdf (omega arith))
       (rw (le-leb 0xe0 b (omega arith), lt-leb b 0xef (omega arith), le-leb 0xf0 b (omega arith), lt-leb b 0xf7 l))
 
+-- a byte below 80 where a character begins
+pub encoded-plain : (b : ℕ) → b ≤ 0x7f → (t : List ℕ) → encoded 0 (b ∷ t) ≡ encoded 0 t
+unfolding encoded
+encoded-plain b h t = ap (λ (o : Option ℕ). elim o as (λ _. Bool) [ none ↦ false | some k ↦ encoded k t ]) (takes-0 b (omega arith))
+
 -- dots by the length
 pub dots-one : (s : List ℕ) → length s ≡ 1 → eqb (getD s 0 0) 0x2e ≡ dots s
 dots-one [] h = absurd (omega arith)
@@ -105,6 +110,11 @@ module _ (s : List ℕ) where
   pub name-long : 64 < length s → false ≡ validName s
   unfolding validName
   name-long h = rw (le-leb 1 (length s) (omega arith), lt-leb (length s) 64 h)
+
+  -- of bytes that are allowed and spell whole characters
+  pub name-plain : 1 ≤ length s → length s ≤ 64 → (allowed s ≡ true) × (encoded 0 s ≡ true) → not (dots s) ≡ validName s
+  unfolding validName
+  name-plain l h p = rw (le-leb 1 (length s) l, le-leb (length s) 64 h, p .0, p .1)
 
   pub name-bytes : 1 ≤ length s → length s ≤ 64 → (allowed s && (encoded 0 s && not (dots s))) ≡ validName s
   unfolding validName

@@ -1,6 +1,6 @@
 ghost use mathlib.Core.Path.{_≡_};
 ghost use mathlib.Core.List.{List, [], _∷_};
-ghost use mathlib.Core.Bool.{_&&_};
+ghost use mathlib.Core.Bool.{_&&_, true};
 ghost use Prim.Native.Nat.{ℕ, _≤_, _<_};
 ghost use lib.Dec.{leb};
 ghost use lib.ListN.{length, getD};
@@ -77,6 +77,24 @@ fn whole_characters(name: &[u8]) -> bool
     left == 0
 }
 
+// Whether every byte of `name` is below 80 and not forbidden. Most names are so, and then they spell whole characters.
+fn plain_bytes(name: &[u8]) -> bool
+    ensures { λ t. ⌜ (t ≡ true → (allowed (now (name .entry)) ≡ true) × (encoded 0 (now (name .entry)) ≡ true)) ⌝ }
+{
+    let mut i = 0;
+    while i < name.len() {
+        let b = name[i];
+        if 0x7f < b {
+            return false;
+        }
+        if forbidden_byte(b) {
+            return false;
+        }
+        i += 1;
+    }
+    true
+}
+
 // Whether `name` is "." or "..".
 fn only_dots(name: &[u8]) -> bool
     ensures { λ r. ⌜ r ≡ dots (now (name .entry)) ⌝ }
@@ -99,6 +117,9 @@ pub fn valid_name(name: &[u8]) -> bool
     }
     if 64 < name.len() {
         return false;
+    }
+    if plain_bytes(name) {
+        return !only_dots(name);
     }
     allowed_bytes(name) & (whole_characters(name) & !only_dots(name))
 }

@@ -176,8 +176,14 @@ long-not n h = rw (lt-leb n 1048576 h) (go (eqb (n % 16) 0) (leb 64 n))
     go true false = refl
     go false b = refl
 
-pub judged-over : (s : List ℕ) → 1048576 < length s → record { rule = 1; place = 0 } ≡ verdict s
+judged-over : (s : List ℕ) → 1048576 < length s → record { rule = 1; place = 0 } ≡ verdict s
 judged-over s h = judged-tiling s (some 0) 0 (tiles-length s (long-not (length s) h)) refl
+
+-- the rule that is broken where there is no byte is the one that is broken where there are too many
+pub judged-as-none : (s : List ℕ) → 1048576 < length s → {v : Verdict} → v ≡ verdict [] → record { rule = v .rule; place = 0 } ≡ verdict s
+unfolding lengthAllowed
+judged-as-none s h {v} e =
+    ap (λ (x : Verdict). record { rule = x .rule; place = 0 }) (e ∙ sym (judged-tiling [] (some 0) 0 (tiles-length [] refl) refl)) ∙ judged-over s h
 
 pub countable : {s m : List ℕ} (root : ℕ) {o : Option ℕ} → Fresh s m → o ≡ breakerOf rule3 (objects (volumeOf s)) root → o ≡ none → Countable s m root
 countable root f e z = record { fresh = f; rule-3 = sym e ∙ z }

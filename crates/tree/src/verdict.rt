@@ -275,8 +275,17 @@ pub fn judge_marked(image: &[u8], marks: &mut [u8]) -> Verdict
     v
 }
 
-// Up to 4,096 units.
+// Up to 256 units.
 fn judge_small(image: &[u8]) -> Verdict
+    requires { ⌜ length (now image) ≤ 4096 ⌝ }
+    ensures { λ v. ⌜ verdictOf v ≡ verdict (now (image .entry)) ⌝ }
+{
+    let mut marks = [0u8; 256];
+    decide(image, &mut marks)
+}
+
+// Up to 4,096 units.
+fn judge_middle(image: &[u8]) -> Verdict
     requires { ⌜ length (now image) ≤ 65536 ⌝ }
     ensures { λ v. ⌜ verdictOf v ≡ verdict (now (image .entry)) ⌝ }
 {
@@ -293,19 +302,24 @@ fn judge_large(image: &[u8]) -> Verdict
     decide(image, &mut marks)
 }
 
-// The verdict, for any bytes.
+// The verdict, for any bytes. A length past all that are allowed is as wrong as none. (The compiler merges no row of marks into the frame of a
+// function that calls itself, so that a small image needs little stack.)
 pub fn judge(image: &[u8]) -> Verdict
     ensures { λ v. ⌜ verdictOf v ≡ verdict (now (image .entry)) ⌝ }
 {
     let len = image.len();
-    if len <= 65536 {
+    if 1048576 < len {
+        let none = judge(&image[0..0]);
+        return Verdict {
+            rule: none.rule,
+            place: Ref(0),
+        };
+    }
+    if len <= 4096 {
         return judge_small(image);
     }
-    if len <= 1048576 {
-        return judge_large(image);
+    if len <= 65536 {
+        return judge_middle(image);
     }
-    Verdict {
-        rule: 1,
-        place: Ref(0),
-    }
+    judge_large(image)
 }
