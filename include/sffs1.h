@@ -36,6 +36,7 @@ enum {
     SFFS1_PAST_ROOM = 12,        /* the end of a write, or the length, is past the room */
     SFFS1_PAST_END = 13,         /* the point's 16 bytes do not all lie within the file size */
     SFFS1_TOO_FEW_LINES = 14,    /* fewer lines are lent than there are objects */
+    SFFS1_TOO_FEW_MARKS = 17,    /* fewer marks are lent than the image has units of 16 bytes */
 
     /* The image is not well formed: 20 + the lowest broken rule. In brackets the block that the place names. */
     SFFS1_BROKEN_BLOCKS = 21,    /* the length is wrong (0), or blocks do not fill the image end to end, each of a known
@@ -50,8 +51,24 @@ enum {
     SFFS1_BROKEN_FREE_CHAIN = 28 /* the chain does not name each free block once, rising; or two are neighbours (0) */
 };
 
+/* The marks of units where a block begins. */
+enum {
+    SFFS1_MARK_SUPERBLOCK = 1,
+    SFFS1_MARK_DIRECTORY = 2,
+    SFFS1_MARK_NAME = 3,
+    SFFS1_MARK_FILE = 4,
+    SFFS1_MARK_CHUNK = 5,        /* a part of a large file: not yet in any image */
+    SFFS1_MARK_FREE = 6
+};
+
 /* Whether the image is well formed: SFFS1_DONE, or 21 to 28 and the place. */
 uint8_t sffs1_check(const uint8_t *image, size_t image_len, uint64_t *place);
+
+/* The same check, lent one mark for each unit of 16 bytes: image_len / 16, rounded down. Fewer are refused with
+   SFFS1_TOO_FEW_MARKS, before all else, and nothing is changed. Where the image is well formed, the mark of each unit is
+   then an SFFS1_MARK where a block begins, or else 0; on every other refusal these marks are 0. Marks past them are
+   unchanged. It needs no row of marks on the stack, and is as quick as sffs1_check. */
+uint8_t sffs1_check_marked(const uint8_t *image, size_t image_len, uint8_t *marks, size_t marks_len, uint64_t *place);
 
 /* What the path names: its ref, and whether it is a directory (0 or 1). A file has its size and room in first and
    second, a directory its taken slots and its slots in all. */

@@ -64,6 +64,17 @@ static void expect_listing(void) {
     for (int i = 0; i < 24; i++) expect("a number", numbers[i], i < 21 ? wanted[i] : 0xeeeeeeeeeeeeeeeeULL);
 }
 
+/* The marks of the card's units, and one past them that stays; a mark too few is refused. */
+static void expect_marks(void) {
+    static const uint8_t wanted[17] = {1, 0, 2, 0, 0, 4, 0, 0, 0, 0, 2, 0, 3, 3, 6, 0, 0xaa};
+    uint8_t marks[17];
+    memset(marks, 0xaa, 17);
+    expect_answer("check with 15 marks", sffs1_check_marked(card, LENGTH, marks, 15, &place), SFFS1_TOO_FEW_MARKS);
+    for (int i = 0; i < 17; i++) expect("an unchanged mark", marks[i], 0xaa);
+    expect_answer("check with marks", sffs1_check_marked(card, LENGTH, marks, 17, &place), SFFS1_DONE);
+    for (int i = 0; i < 17; i++) expect("a mark", marks[i], wanted[i]);
+}
+
 /* Writes and lengths within the room of 32, and past it. */
 static void expect_writes(void) {
     expect_answer("write at 28", write_at("/heel", 28, "last"), SFFS1_DONE);
@@ -117,6 +128,7 @@ int main(void) {
     expect_file("/b", 41, SFFS1_DONE, 5);
     expect("name ref", word(48), 13);
     expect_answer("check", sffs1_check(card, LENGTH, &place), SFFS1_DONE);
+    expect_marks();
     expect_listing();
     card[23] = 0; /* the free block is in no chain */
     expect_damaged(SFFS1_BROKEN_FREE_CHAIN, 0);

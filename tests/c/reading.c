@@ -82,9 +82,49 @@ static void expect_point(const char *path, uint64_t n, uint8_t refusal, uint8_t 
     for (int i = 0; i < 16; i++) expect(path, point[i], refusal ? 0 : first + i);
 }
 
+/* The marks of the card's units. */
+static const uint8_t card_marks[UNITS] = {1, 0, 2, 0, 0, 4, 0, 0, 0, 0, 3, 2, 0, 0, 3, 6};
+static const uint8_t no_marks[UNITS];
+
+/* The check of so many bytes with so many marks, 0xaa before. `marks` are those that the units of the image get, or
+   null where all stay; those past them stay. */
+static void expect_marked(const char *what, size_t length, size_t lent, uint8_t refusal, const uint8_t *marks) {
+    uint8_t found[UNITS + 8];
+    memset(found, 0xaa, sizeof found);
+    expect_answer(what, sffs1_check_marked(card, length, found, lent, &place), refusal);
+    for (size_t i = 0; i < sizeof found; i++) expect(what, found[i], marks && i < length / 16 ? marks[i] : 0xaa);
+}
+
+/* Too few marks, whatever else is wrong with the card. */
+static void expect_few_marks(void) {
+    wanted_place = 0;
+    expect_marked("no marks", LENGTH, 0, SFFS1_TOO_FEW_MARKS, NULL);
+    expect_marked("a mark too few", LENGTH, UNITS - 1, SFFS1_TOO_FEW_MARKS, NULL);
+    expect_marked("3 marks for 65 bytes", 65, 3, SFFS1_TOO_FEW_MARKS, NULL);
+    expect_marked("2 marks for 48 bytes", 48, 2, SFFS1_TOO_FEW_MARKS, NULL);
+}
+
+/* Enough marks for a sound card, for a part of it, and for lengths that are not allowed. */
+static void expect_marks(void) {
+    expect_few_marks();
+    expect_marked("just enough marks", LENGTH, UNITS, SFFS1_DONE, card_marks);
+    expect_marked("more marks", LENGTH, UNITS + 8, SFFS1_DONE, card_marks);
+    expect_marked("4 marks for 65 bytes", 65, 4, SFFS1_BROKEN_BLOCKS, no_marks);
+    expect_marked("5 marks for 65 bytes", 65, 5, SFFS1_BROKEN_BLOCKS, no_marks);
+    expect_marked("3 marks for 48 bytes", 48, 3, SFFS1_BROKEN_BLOCKS, no_marks);
+    expect_marked("no marks for 15 bytes", 15, 0, SFFS1_BROKEN_BLOCKS, no_marks);
+    expect_marked("no marks for 0 bytes", 0, 0, SFFS1_BROKEN_BLOCKS, no_marks);
+    wanted_place = 15;
+    expect_marked("a card cut short", LENGTH - 16, UNITS - 1, SFFS1_BROKEN_BLOCKS, no_marks);
+    wanted_place = 0;
+}
+
 /* Every call is refused with this number and place, whatever else is wrong with it. */
 static void expect_damaged(uint8_t refusal, uint64_t at) {
+    expect_few_marks();
     wanted_place = at;
+    expect_marked("just enough marks for a damaged card", LENGTH, UNITS, refusal, no_marks);
+    expect_marked("more marks for a damaged card", LENGTH, UNITS + 8, refusal, no_marks);
     expect_answer("check of a damaged card", sffs1_check(card, LENGTH, &place), refusal);
     expect_find("/heel", refusal, 0, 0, 0, 0);
     expect_find("/a/", refusal, 0, 0, 0, 0);
@@ -115,6 +155,7 @@ int main(void) {
     build();
     expect_answer("check", sffs1_check(card, LENGTH, &place), SFFS1_DONE);
     expect_answer("check of 0 bytes", sffs1_check(card, 0, &place), SFFS1_BROKEN_BLOCKS);
+    expect_marks();
     expect_find("/", SFFS1_DONE, 2, 1, 2, 2);
     expect_find("/heel", SFFS1_DONE, 5, 0, 40, 48);
     expect_find("/a", SFFS1_DONE, 11, 1, 0, 2);

@@ -28,6 +28,7 @@ fn run_with(step: &mut Step) -> Verdict {
         larger_first,
         regrown,
         listed,
+        marked,
         shown,
     ];
     cases.iter().try_for_each(|case| case(&mut Bench { step, image: Vec::new() }))
@@ -116,6 +117,16 @@ impl Bench<'_, '_> {
         let found = self.expect(Call::List { lent: vec![0x7777; numbers] }, refusal, &[count])?;
         if found.lines != vec![0x7777; numbers] {
             return Err(format!("a refused listing changed lines: {:?}", found.lines));
+        }
+        Ok(())
+    }
+
+    /// The check with these marks and so many more; those are as before.
+    fn marks(&mut self, refusal: u8, marks: &[u8], more: usize) -> Verdict {
+        let lent = vec![0x77; marks.len() + more];
+        let found = self.expect(Call::CheckMarked { marks: lent }, refusal, &[])?;
+        if found.buffer != [marks, &vec![0x77; more]].concat() {
+            return Err(format!("marks {:?}, not {marks:?} and {more} more", found.buffer));
         }
         Ok(())
     }
@@ -333,6 +344,34 @@ fn listed(bench: &mut Bench) -> Verdict {
     bench.image[0] = 0;
     bench.lists_none(0, 21, 0)?;
     bench.lists_none(30, 21, 0)
+}
+
+/// The same card with marks, as it grows and after a removal; too few marks, and lengths that are not allowed.
+fn marked(bench: &mut Bench) -> Verdict {
+    bench.new_card(256, 2, 0)?;
+    bench.marks(0, &[1, 0, 2, 0, 0, 6, 0, 0, 0, 0, 0, 0, 0, 0, 0, 0], 0)?;
+    bench.make_file("/heel", 32, 0, 5)?;
+    bench.make_directory("/a", 1, 0, 10)?;
+    let marks = [1, 0, 2, 0, 0, 4, 0, 0, 0, 3, 2, 0, 3, 6, 0, 0];
+    for more in [0, 1, 20] {
+        bench.marks(0, &marks, more)?;
+    }
+    for few in [0, 1, 15] {
+        bench.marks(17, &[], few)?;
+    }
+    bench.remove("/heel", 0)?;
+    bench.marks(0, &[1, 0, 2, 0, 0, 6, 0, 0, 0, 0, 2, 0, 3, 6, 0, 0], 1)?;
+    put64(&mut bench.image, FIRST_FREE, 0);
+    bench.marks(28, &[0; 16], 1)?;
+    bench.marks(17, &[], 15)?;
+    for (length, needed) in [(65, 4), (63, 3), (16, 1), (LONGEST + 16, 65_537)] {
+        bench.image = vec![0xee; length];
+        bench.marks(17, &[], needed - 1)?;
+        bench.marks(21, &vec![0; needed], 0)?;
+        bench.marks(21, &vec![0; needed], 1)?;
+    }
+    bench.image = vec![0xee; 15];
+    bench.marks(21, &[], 0)
 }
 
 /// The same card as text, and what is refused.

@@ -1,11 +1,12 @@
 //! Images that break a rule, with the number and the place that every call must answer, written down by hand.
 
-use crate::call::{Call, Outcome};
+use crate::call::{Call, Outcome, DONE};
 use crate::compare::Bout;
 use crate::coverage::Coverage;
 use crate::model::calls::{format, make_directory, make_file, remove};
 use crate::model::layout::*;
 use crate::model::list::{show, LONGEST_SHOWN};
+use crate::model::marks::marks_needed;
 use crate::model::Refusal;
 
 type Verdict = Result<(), String>;
@@ -51,7 +52,8 @@ fn run_with(step: &mut Step) -> Verdict {
     for (call, number) in sound_calls() {
         expect(step, &card(), &call, number.into())?;
     }
-    expect(step, &deep_card(), &Call::Check, 0.into())
+    expect(step, &deep_card(), &Call::Check, 0.into())?;
+    marked(step, &card(), DONE, &MARKS)
 }
 
 /// Every call refuses the damaged card, and so does the listing as text.
@@ -61,6 +63,8 @@ fn refuses(step: &mut Step, mut card: Vec<u8>, &(what, edits, number, place): &C
     for call in every_call() {
         expect(step, &card, &call, refusal).map_err(|why| format!("{what}: {why}"))?;
     }
+    let none = vec![0; marks_needed(card.len())];
+    marked(step, &card, refusal, &none).map_err(|why| format!("{what}: {why}"))?;
     let told = if card.len() > LONGEST_SHOWN { "1".to_string() } else { refusal.to_string() };
     let text = show(&card);
     if text != format!("refused {told}\n").into_bytes() {
@@ -77,7 +81,34 @@ fn expect(step: &mut Step, card: &[u8], call: &Call, refusal: Refusal) -> Verdic
     Ok(())
 }
 
-/// Every call that tells a place, with sound arguments and with a bad path and numbers out of bounds.
+/// The check with lent marks. Too few are refused first, and stay; with enough, the answer and these marks for
+/// the units of the card, and what is lent past them stays.
+fn marked(step: &mut Step, card: &[u8], refusal: Refusal, units: &[u8]) -> Verdict {
+    for few in [0, units.len() / 2, units.len().saturating_sub(1)] {
+        if few < units.len() {
+            marks_are(step, card, few, 17.into(), &vec![LENT_MARK; few])?;
+        }
+    }
+    for more in [0, 1, 40] {
+        let wanted = [units, &vec![LENT_MARK; more]].concat();
+        marks_are(step, card, wanted.len(), refusal, &wanted)?;
+    }
+    Ok(())
+}
+
+/// What a lent mark holds before the check.
+const LENT_MARK: u8 = 7;
+
+fn marks_are(step: &mut Step, card: &[u8], lent: usize, refusal: Refusal, wanted: &[u8]) -> Verdict {
+    let call = Call::CheckMarked { marks: vec![LENT_MARK; lent] };
+    let found = step(&mut card.to_vec(), &call)?;
+    if found.refusal != refusal || found.buffer != wanted {
+        return Err(format!("{call}: {} {:?}, not {refusal} {wanted:?}", found.refusal, found.buffer));
+    }
+    Ok(())
+}
+
+/// Every other call that tells a place, with sound arguments and with a bad path and numbers out of bounds.
 fn every_call() -> Vec<Call> {
     let mut calls = vec![Call::Check, Call::List { lent: Vec::new() }, Call::List { lent: vec![7; 7 * 30] }];
     for (path, slots, room, number) in [("/f", 1, 0, 1), ("f//", 0, 65_537, 4097)] {
@@ -165,6 +196,10 @@ fn card() -> Vec<u8> {
     apply(&mut card, Number(18, FILE_SIZE, 16));
     card
 }
+
+/// The marks of that card.
+const MARKS: [u8; 34] =
+    [1, 0, 2, 0, 0, 0, 4, 0, 0, 3, 2, 0, 0, 3, 2, 0, 0, 3, 4, 0, 0, 3, 6, 0, 0, 0, 4, 0, 0, 3, 6, 0, 0, 0];
 
 /// A card with 16 directories in each other. In storage order:
 ///

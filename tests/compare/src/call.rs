@@ -1,5 +1,6 @@
 //! A call with its arguments as values, and what comes of it.
 
+use crate::model::marks::check_marked;
 use crate::model::{calls, list, Refusal};
 use std::fmt;
 
@@ -19,10 +20,11 @@ pub enum Call {
     SetLength { path: Vec<u8>, length: u64 },
     Remove { path: Vec<u8> },
     List { lent: Vec<u64> },
+    CheckMarked { marks: Vec<u8> },
 }
 
 /// Names of the calls, by `Call::index`.
-pub const CALLS: [&str; 11] = [
+pub const CALLS: [&str; 12] = [
     "format",
     "check",
     "find",
@@ -34,13 +36,14 @@ pub const CALLS: [&str; 11] = [
     "set length",
     "remove",
     "list",
+    "check marked",
 ];
 
 /// The answers of a call that meets an image that is not well formed: 20 + the rule.
 pub const BROKEN: [u8; 8] = [21, 22, 23, 24, 25, 26, 27, 28];
 
 /// The answers that each call can give, by `Call::index`; all but format give those of `BROKEN` too.
-pub const ANSWERS: [&[u8]; 11] = [
+pub const ANSWERS: [&[u8]; 12] = [
     &[0, 1, 8, 10],
     &[0],
     &[0, 2, 3, 4],
@@ -52,6 +55,7 @@ pub const ANSWERS: [&[u8]; 11] = [
     &[0, 2, 3, 4, 5, 12],
     &[0, 2, 3, 4, 9, 11],
     &[0, 14],
+    &[0, 17],
 ];
 
 /// Whether the call can give this answer.
@@ -73,6 +77,7 @@ impl Call {
             Call::SetLength { .. } => 8,
             Call::Remove { .. } => 9,
             Call::List { .. } => 10,
+            Call::CheckMarked { .. } => 11,
         }
     }
 }
@@ -95,12 +100,13 @@ impl fmt::Display for Call {
             }
             Call::SetLength { path, length } => write!(out, " \"{}\" length {length}", path.escape_ascii()),
             Call::List { lent } => write!(out, ", {} numbers lent", lent.len()),
+            Call::CheckMarked { marks } => write!(out, ", {} marks lent", marks.len()),
         }
     }
 }
 
-/// The answer's number and place, its other out numbers, and the lent buffer, the point or the lent lines
-/// afterwards. Number and place of an accepted call are 0.
+/// The answer's number and place, its other out numbers, and the lent buffer, the point, the lent marks or the
+/// lent lines afterwards. Number and place of an accepted call are 0.
 #[derive(Clone, PartialEq, Eq, Debug)]
 pub struct Outcome {
     pub refusal: Refusal,
@@ -162,6 +168,11 @@ pub fn on_model(image: &mut [u8], call: &Call) -> Outcome {
             let mut lines = lent.clone();
             let answer = list::list(image, &mut lines);
             Outcome::listed(answer, lines)
+        }
+        Call::CheckMarked { marks } => {
+            let mut marks = marks.clone();
+            let answer = check_marked(image, &mut marks);
+            Outcome::of(answer, Vec::new(), marks)
         }
     }
 }

@@ -6,6 +6,7 @@ use crate::library::on_library;
 use crate::model::check::broken_rule;
 use crate::model::layout::{get64, FIRST_FREE};
 use crate::model::list::{FIELDS, LINE};
+use crate::model::marks::marks_needed;
 
 /// Runs calls on both, and counts them.
 pub struct Bout<'a> {
@@ -22,16 +23,21 @@ impl<'a> Bout<'a> {
     }
 
     /// Changes the image as the model does; an error tells the call and the difference.
-    pub fn step(&mut self, image: &mut Vec<u8>, call: &Call) -> Result<Outcome, String> {
+    pub fn step(&mut self, image: &mut [u8], call: &Call) -> Result<Outcome, String> {
         self.calls += 1;
         if self.tell {
             println!("call {}, {call}", self.calls);
         }
-        let before = image.clone();
+        let before = image.to_vec();
         let wanted = on_model(image, call);
         self.coverage.count_call(call.index(), wanted.refusal);
-        if let Call::List { lent } = call {
-            self.count_list(image, lent.len(), &wanted);
+        match call {
+            Call::List { lent } => self.count_list(image, lent.len(), &wanted),
+            Call::CheckMarked { marks } => {
+                let needed = marks_needed(image.len());
+                self.coverage.count_marks(marks.len(), needed, broken_rule(image) == 0);
+            }
+            _ => (),
         }
         match self.difference(&before, image, call, &wanted) {
             None => Ok(wanted),
@@ -80,11 +86,11 @@ fn misled(before: &[u8], after: &[u8], wanted: &Outcome) -> Option<String> {
 fn unlike(what: &str, found: &[u8], wanted: &[u8]) -> Option<String> {
     let at = (0..found.len()).find(|&at| found[at] != wanted[at])?;
     let count = (0..found.len()).filter(|&at| found[at] != wanted[at]).count();
-    let (unit, pos) = (at / 16, at % 16);
-    Some(format!(
-        "{what}: {count} bytes differ, first byte {at} (unit {unit}, pos {pos}): {:02x}, model {:02x}",
-        found[at], wanted[at]
-    ))
+    let place = match what {
+        "buffer" => format!("byte {at}"),
+        _ => format!("byte {at} (unit {}, pos {})", at / 16, at % 16),
+    };
+    Some(format!("{what}: {count} bytes differ, first {place}: {:02x}, model {:02x}", found[at], wanted[at]))
 }
 
 fn unlike_lines(found: &[u64], wanted: &[u64]) -> Option<String> {

@@ -6,11 +6,11 @@ use crate::model::Refusal;
 use std::collections::BTreeSet;
 
 /// Answers but those of `BROKEN`.
-const ANSWERS: [u8; 15] = [0, 1, 2, 3, 4, 5, 6, 7, 8, 9, 10, 11, 12, 13, 14];
+const ANSWERS: [u8; 16] = [0, 1, 2, 3, 4, 5, 6, 7, 8, 9, 10, 11, 12, 13, 14, 17];
 const NUMBERS: usize = 29;
 const SIZES: [usize; 6] = [256, 1024, 4096, 65_536, 1_048_576, usize::MAX];
 
-/// How many lines a listing is lent, against those that it needs.
+/// How many lines or marks are lent, against those that are needed.
 const LENT: [&str; 5] = ["none", "too few", "one too few", "just enough", "more"];
 
 #[derive(Default)]
@@ -32,6 +32,21 @@ pub struct Coverage {
     lent_over: u64,
     listed_full: u64,
     most_lines: usize,
+    marks: [u64; LENT.len()],
+    /// Too few marks on images that are not well formed.
+    marks_first: u64,
+    most_marks: usize,
+}
+
+/// An index of `LENT`.
+fn lent_class(lent: usize, needed: usize) -> usize {
+    match lent {
+        _ if lent > needed => 4,
+        _ if lent == needed => 3,
+        0 => 0,
+        _ if lent + 1 == needed => 2,
+        _ => 1,
+    }
 }
 
 impl Coverage {
@@ -60,18 +75,21 @@ impl Coverage {
 
     /// A listing of a well-formed image.
     pub fn count_list(&mut self, numbers: usize, needed: usize, full: bool) {
-        let class = match numbers / LINE {
-            0 => 0,
-            lines if lines + 1 < needed => 1,
-            lines if lines < needed => 2,
-            lines if lines == needed => 3,
-            _ => 4,
-        };
+        let class = lent_class(numbers / LINE, needed);
         self.lent[class] += 1;
-        self.lent_over += u64::from(numbers % LINE > 0);
+        self.lent_over += u64::from(!numbers.is_multiple_of(LINE));
         self.listed_full += u64::from(full);
         if class > 2 {
             self.most_lines = self.most_lines.max(needed);
+        }
+    }
+
+    /// A check with lent marks; whether the image is well formed.
+    pub fn count_marks(&mut self, lent: usize, needed: usize, sound: bool) {
+        self.marks[lent_class(lent, needed)] += 1;
+        self.marks_first += u64::from(lent < needed && !sound);
+        if lent >= needed && sound {
+            self.most_marks = self.most_marks.max(needed);
         }
     }
 
@@ -79,9 +97,27 @@ impl Coverage {
         self.calls.iter().flatten().sum()
     }
 
+    /// Lines for calls that are counted apart: how many of each were accepted, and refused by each rule.
+    pub fn print_short(&self, title: &str) {
+        let images: u64 = self.images.iter().sum();
+        println!("{title}: images {images}, calls {}", self.calls_in_all());
+        print!("  accepted:");
+        for (name, answers) in CALLS.iter().zip(self.calls).filter(|(_, answers)| answers[0] > 0) {
+            print!(" {name} {},", answers[0]);
+        }
+        println!(" most lines listed {}, most units marked {}", self.most_lines, self.most_marks);
+        print!("  refused:");
+        for number in BROKEN {
+            let count: u64 = self.calls.iter().map(|answers| answers[number as usize]).sum();
+            print!(" {number} {count} times,");
+        }
+        println!(" with a place {}", self.placed);
+    }
+
     pub fn print(&self) {
         self.print_calls();
         self.print_lists();
+        self.print_marks();
         self.print_images();
         let damaged: u64 = self.broken.iter().sum();
         println!("damaged images {damaged}; by the first rule broken:");
@@ -103,6 +139,15 @@ impl Coverage {
         }
         println!(" with numbers over {}", self.lent_over);
         println!("most lines listed {}, listings of full cards {}", self.most_lines, self.listed_full);
+    }
+
+    fn print_marks(&self) {
+        print!("marked checks by marks lent:");
+        for (what, count) in LENT.iter().zip(self.marks) {
+            print!(" {what} {count},");
+        }
+        println!(" too few on an image not well formed {}", self.marks_first);
+        println!("most units marked {}", self.most_marks);
     }
 
     fn print_calls(&self) {

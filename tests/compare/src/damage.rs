@@ -58,6 +58,18 @@ pub fn damage(random: &mut Random, image: &mut Vec<u8>, scene: &Scene) {
     }
 }
 
+/// One damage of those aimed at a rule; none where a few trials find nothing to damage so.
+pub fn damage_of(random: &mut Random, image: &mut [u8], scene: &Scene, rule: u8) {
+    let Some(blocks) = &scene.blocks else { return };
+    let aimed: Vec<_> = DAMAGES.iter().filter(|damage| damage.1 == rule).collect();
+    for _ in 0..20 {
+        let (.., damage) = random.one(&aimed);
+        if damage(random, image, scene, blocks).is_some() {
+            return;
+        }
+    }
+}
+
 fn flip_bits(random: &mut Random, image: &mut [u8], _: &Scene, _: &Blocks) -> Option<()> {
     for _ in 0..random.within(1, 4) {
         let at = random.below(image.len());

@@ -7,7 +7,8 @@ use crate::damage::damage;
 use crate::foreign::scribble;
 use crate::model::check::{allowed_length, broken_rule};
 use crate::model::layout::LONGEST;
-use crate::pick::{any_call, call, lend, Mood, MOODS};
+use crate::model::marks::marks_needed;
+use crate::pick::{any_call, call, check_marked, lend, marks, Mood, MOODS};
 use crate::random::Random;
 use crate::scatter::{crowd, scatter, Plan, EXCESSES};
 use crate::scene::Scene;
@@ -45,10 +46,10 @@ fn awkward(random: &mut Random, bout: &mut Bout) -> Verdict {
     let count = if length > 4096 { 3 } else { 12 };
     for _ in 0..count {
         let index = random.below(CALLS.len());
-        let call = call(random, &Scene::of(&image), Mood::Working, index);
+        let call = call(random, &Scene::of(&image), image.len(), Mood::Working, index);
         bout.step(&mut image, &call)?;
     }
-    Ok(())
+    markings(random, bout, &image)
 }
 
 /// A formatted image and a row of calls.
@@ -77,18 +78,23 @@ fn scattered(random: &mut Random, bout: &mut Bout) -> Verdict {
         slots: random.one(&[1, 2, 4, 9]),
         excess: None,
     };
-    let mut image = sound(bout, scatter(random, &plan))?;
+    let mut image = laid_out(bout, scatter(random, &plan))?;
     bout.coverage.count_image(image.len());
     let steps = random.within(20, 80);
     live(random, bout, &mut image, steps)
 }
 
 /// A scattered image that must be well formed.
-fn sound(bout: &mut Bout, image: Vec<u8>) -> Result<Vec<u8>, String> {
+fn laid_out(bout: &mut Bout, image: Vec<u8>) -> Result<Vec<u8>, String> {
     bout.coverage.scattered += 1;
+    sound(image)
+}
+
+/// An image that must be well formed, though no call made it.
+pub fn sound(image: Vec<u8>) -> Result<Vec<u8>, String> {
     match broken_rule(&image) {
         0 => Ok(image),
-        rule => Err(format!("a scattered image breaks rule {rule}")),
+        rule => Err(format!("an image that was laid out breaks rule {rule}")),
     }
 }
 
@@ -99,7 +105,7 @@ fn deep(random: &mut Random, bout: &mut Bout) -> Verdict {
     if depth > 16 {
         return (0..6).try_for_each(|_| too_deep(random, bout, &plan));
     }
-    let mut image = sound(bout, scatter(random, &plan))?;
+    let mut image = laid_out(bout, scatter(random, &plan))?;
     bout.coverage.count_image(image.len());
     live(random, bout, &mut image, 25)
 }
@@ -122,7 +128,7 @@ fn exceeding(random: &mut Random, bout: &mut Bout) -> Verdict {
     torture(random, bout, &image, &Scene::default(), 6)
 }
 
-/// Large images with few blocks, or many; few calls, since a check looks at everything.
+/// Large images with few blocks, or many.
 fn large(random: &mut Random, bout: &mut Bout) -> Verdict {
     let mut image;
     if random.percent(40) {
@@ -134,10 +140,10 @@ fn large(random: &mut Random, bout: &mut Bout) -> Verdict {
             slots: 20,
             excess: None,
         };
-        image = sound(bout, scatter(random, &plan))?;
+        image = laid_out(bout, scatter(random, &plan))?;
     } else if random.percent(30) {
         let slots = random.one(&[100, 255, 256, 1023, 1024]);
-        image = sound(bout, crowd(random, slots))?;
+        image = laid_out(bout, crowd(random, slots))?;
     } else {
         let whole = random.within(4096, LONGEST / 16);
         let length = random.one(&[16 * whole, LONGEST, 65_536, 131_072, 131_072 + 16 * 300]);
@@ -147,11 +153,11 @@ fn large(random: &mut Random, bout: &mut Bout) -> Verdict {
         big_file(random, bout, &mut image)?;
     }
     bout.coverage.count_image(image.len());
-    live(random, bout, &mut image, 12)
+    live(random, bout, &mut image, 40)
 }
 
 /// A file of the greatest room, its last bytes and its last point.
-fn big_file(random: &mut Random, bout: &mut Bout, image: &mut Vec<u8>) -> Verdict {
+fn big_file(random: &mut Random, bout: &mut Bout, image: &mut [u8]) -> Verdict {
     let path = b"/big".to_vec();
     bout.step(image, &Call::MakeFile { path: path.clone(), room: 65_536 })?;
     let bytes = random.bytes(65_536);
@@ -166,7 +172,7 @@ fn big_file(random: &mut Random, bout: &mut Bout, image: &mut Vec<u8>) -> Verdic
 }
 
 /// Calls on a well-formed image, with foreign bytes and damaged copies between them.
-fn live(random: &mut Random, bout: &mut Bout, image: &mut Vec<u8>, steps: usize) -> Verdict {
+fn live(random: &mut Random, bout: &mut Bout, image: &mut [u8], steps: usize) -> Verdict {
     let mut mood = Mood::Filling;
     for _ in 0..steps {
         let scene = Scene::of(image);
@@ -179,7 +185,7 @@ fn live(random: &mut Random, bout: &mut Bout, image: &mut Vec<u8>, steps: usize)
         bout.coverage.count_scene(scene.depth(), scene.free.len(), scene.things.len());
         match random.below(100) {
             0..=79 => {
-                let call = any_call(random, &scene, mood);
+                let call = any_call(random, &scene, image.len(), mood);
                 bout.step(image, &call)?;
             }
             80..=89 => {
@@ -187,7 +193,7 @@ fn live(random: &mut Random, bout: &mut Bout, image: &mut Vec<u8>, steps: usize)
                 bout.coverage.foreign += 1;
             }
             _ => {
-                let mut damaged = image.clone();
+                let mut damaged = image.to_vec();
                 damage(random, &mut damaged, &scene);
                 bout.coverage.count_damaged(broken_rule(&damaged));
                 torture(random, bout, &damaged, &scene, 3)?;
@@ -195,11 +201,22 @@ fn live(random: &mut Random, bout: &mut Bout, image: &mut Vec<u8>, steps: usize)
         }
     }
     bout.step(image, &Call::Check)?;
+    markings(random, bout, image)?;
     listings(random, bout, image)
 }
 
+/// Checks with one mark too few, just enough, and more.
+pub fn markings(random: &mut Random, bout: &mut Bout, image: &[u8]) -> Verdict {
+    let needed = marks_needed(image.len());
+    let more = needed + random.within(1, 40);
+    for count in [needed.saturating_sub(1), needed, more] {
+        bout.step(&mut image.to_vec(), &marks(random, count))?;
+    }
+    Ok(())
+}
+
 /// Listings into no lines, one too few, just enough, and more.
-fn listings(random: &mut Random, bout: &mut Bout, image: &mut Vec<u8>) -> Verdict {
+pub fn listings(random: &mut Random, bout: &mut Bout, image: &mut [u8]) -> Verdict {
     let count = Scene::of(image).things.len();
     let more = count + random.within(1, 5);
     for lines in [0, count.saturating_sub(1), count, more] {
@@ -208,13 +225,14 @@ fn listings(random: &mut Random, bout: &mut Bout, image: &mut Vec<u8>) -> Verdic
     Ok(())
 }
 
-/// A check, a listing with lines to spare, and some other calls, each on a fresh copy of a damaged image.
-fn torture(random: &mut Random, bout: &mut Bout, damaged: &[u8], scene: &Scene, count: usize) -> Verdict {
+/// Checks, a listing with lines to spare, and some other calls, each on a fresh copy of a damaged image.
+pub fn torture(random: &mut Random, bout: &mut Bout, damaged: &[u8], scene: &Scene, count: usize) -> Verdict {
     bout.step(&mut damaged.to_vec(), &Call::Check)?;
+    bout.step(&mut damaged.to_vec(), &check_marked(random, damaged.len()))?;
     bout.step(&mut damaged.to_vec(), &lend(random, scene.things.len() + 25))?;
     for _ in 0..count {
         let index = random.below(CALLS.len());
-        let call = call(random, scene, Mood::Working, index);
+        let call = call(random, scene, damaged.len(), Mood::Working, index);
         bout.step(&mut damaged.to_vec(), &call)?;
     }
     Ok(())

@@ -2,94 +2,7 @@
 
 use crate::call::{Call, Outcome};
 use crate::model::Refusal;
-
-#[link(name = "sffs1", kind = "static")]
-extern "C" {
-    fn sffs1_format(image: *mut u8, image_len: usize, slots: u64) -> u8;
-    fn sffs1_check(image: *const u8, image_len: usize, place: *mut u64) -> u8;
-    fn sffs1_find(
-        image: *const u8,
-        image_len: usize,
-        path: *const u8,
-        path_len: usize,
-        reference: *mut u64,
-        directory: *mut u8,
-        first: *mut u64,
-        second: *mut u64,
-        place: *mut u64,
-    ) -> u8;
-    fn sffs1_make_directory(
-        image: *mut u8,
-        image_len: usize,
-        path: *const u8,
-        path_len: usize,
-        slots: u64,
-        reference: *mut u64,
-        place: *mut u64,
-    ) -> u8;
-    fn sffs1_make_file(
-        image: *mut u8,
-        image_len: usize,
-        path: *const u8,
-        path_len: usize,
-        room: u64,
-        reference: *mut u64,
-        place: *mut u64,
-    ) -> u8;
-    fn sffs1_read(
-        image: *const u8,
-        image_len: usize,
-        path: *const u8,
-        path_len: usize,
-        position: u64,
-        buffer: *mut u8,
-        buffer_len: usize,
-        count: *mut u64,
-        place: *mut u64,
-    ) -> u8;
-    fn sffs1_read_point(
-        image: *const u8,
-        image_len: usize,
-        path: *const u8,
-        path_len: usize,
-        number: u64,
-        point: *mut u8,
-        place: *mut u64,
-    ) -> u8;
-    fn sffs1_write(
-        image: *mut u8,
-        image_len: usize,
-        path: *const u8,
-        path_len: usize,
-        position: u64,
-        bytes: *const u8,
-        bytes_len: usize,
-        place: *mut u64,
-    ) -> u8;
-    fn sffs1_set_length(
-        image: *mut u8,
-        image_len: usize,
-        path: *const u8,
-        path_len: usize,
-        length: u64,
-        place: *mut u64,
-    ) -> u8;
-    fn sffs1_remove(
-        image: *mut u8,
-        image_len: usize,
-        path: *const u8,
-        path_len: usize,
-        place: *mut u64,
-    ) -> u8;
-    fn sffs1_list(
-        image: *const u8,
-        image_len: usize,
-        numbers: *mut u64,
-        numbers_len: usize,
-        count: *mut u64,
-        place: *mut u64,
-    ) -> u8;
-}
+use sffs1::*;
 
 /// What an out number holds before the call: never an answer.
 const JUNK: u64 = 0xa5c3_9687_b4d2_e1f0;
@@ -122,7 +35,7 @@ impl<T: Copy + PartialEq> Lent<T> {
     }
 }
 
-/// The lent path, the lent buffer or bytes, and the lent lines; each call uses what it needs.
+/// The lent path, the lent buffer, bytes or marks, and the lent lines; each call uses what it needs.
 struct Loan {
     path: Lent<u8>,
     buffer: Lent<u8>,
@@ -138,6 +51,7 @@ fn loan(call: &Call) -> Loan {
         Call::Read { path, buffer, .. } => (path, buffer),
         Call::ReadPoint { path, .. } => (path, &[0x6b; 16]),
         Call::Write { path, bytes, .. } => (path, bytes),
+        Call::CheckMarked { marks } => (none, marks),
     };
     let lines: &[u64] = if let Call::List { lent } = call { lent } else { &[] };
     Loan {
@@ -254,6 +168,7 @@ fn enter(card: &mut Lent<u8>, loan: &mut Loan, out: &mut Out, call: &Call) -> u8
             }
             Call::Remove { .. } => sffs1_remove(image, length, path, path_len, place),
             Call::List { .. } => sffs1_list(image, length, lines, lines_len, number, place),
+            Call::CheckMarked { .. } => sffs1_check_marked(image, length, buffer, buffer_len, place),
         }
     }
 }

@@ -1,18 +1,26 @@
 //! Runs random histories through the store's static library and through a model of the written rules, and
 //! compares every answer, every lent number and buffer, and every byte of the image.
 //!
+//! Before the histories come fixed cases, images that break a rule, directories of names that are alike, and
+//! cards full of blocks and of files.
+//!
 //! Arguments: the number of histories, and the seed of the first; each further history has the next seed.
 //! A third argument, 1, prints every seed and call before it is run.
 //!
 //! With the one argument `show` the model prints the listing of the image that standard input gives.
 
+mod alike;
 mod bench;
 mod broken;
+mod builder;
 mod call;
 mod compare;
 mod coverage;
+mod crowded;
 mod damage;
 mod foreign;
+mod full;
+mod heaps;
 mod history;
 mod library;
 mod model;
@@ -52,17 +60,33 @@ fn main() -> ExitCode {
     run_histories()
 }
 
-fn run_histories() -> ExitCode {
-    let (count, first, tell) = (argument(1, HISTORIES), argument(2, 1), argument(3, 0) == 1);
-    let started = Instant::now();
-    let mut coverage = Coverage::default();
+/// What is run however many histories there are; tells how many of its parts failed.
+fn run_fixed(coverage: &mut Coverage, seed: u64, tell: bool) -> u64 {
+    let [mut crowds, mut heaps, mut fulls] = [(); 3].map(|_| Coverage::default());
     let mut failed = 0;
-    for (title, verdict) in [("worked cases", bench::run(&mut coverage)), ("broken images", broken::run())] {
+    for (title, verdict) in [
+        ("worked cases", bench::run(coverage)),
+        ("broken images", broken::run()),
+        ("like names", crowded::run(seed, &mut crowds, tell)),
+        ("heaps of blocks", heaps::run(seed, &mut heaps, tell)),
+        ("full cards", full::run(seed, &mut fulls, tell)),
+    ] {
         if let Err(what) = verdict {
             println!("{title}: {what}");
             failed += 1;
         }
     }
+    crowds.print_short("like names");
+    heaps.print_short("heaps of blocks");
+    fulls.print_short("full cards");
+    failed
+}
+
+fn run_histories() -> ExitCode {
+    let (count, first, tell) = (argument(1, HISTORIES), argument(2, 1), argument(3, 0) == 1);
+    let started = Instant::now();
+    let mut coverage = Coverage::default();
+    let mut failed = run_fixed(&mut coverage, first, tell);
     let worked = failed;
     for seed in first..first.saturating_add(count) {
         if tell {

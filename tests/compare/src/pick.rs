@@ -2,6 +2,7 @@
 
 use crate::call::Call;
 use crate::model::list::LINE;
+use crate::model::marks::marks_needed;
 use crate::names::*;
 use crate::random::Random;
 use crate::scene::{Scene, Thing};
@@ -18,22 +19,23 @@ pub enum Mood {
 pub const MOODS: [Mood; 4] = [Mood::Filling, Mood::Churning, Mood::Working, Mood::Digging];
 
 /// Chances of the calls, by `Call::index`.
-fn weights(mood: Mood) -> [usize; 11] {
+fn weights(mood: Mood) -> [usize; 12] {
     match mood {
-        Mood::Filling => [1, 2, 5, 22, 40, 4, 4, 14, 5, 3, 5],
-        Mood::Churning => [2, 2, 4, 13, 25, 4, 4, 10, 6, 30, 6],
-        Mood::Working => [1, 2, 9, 3, 9, 19, 19, 20, 15, 3, 9],
-        Mood::Digging => [1, 1, 5, 60, 10, 4, 4, 5, 3, 7, 6],
+        Mood::Filling => [1, 2, 5, 22, 40, 4, 4, 14, 5, 3, 5, 4],
+        Mood::Churning => [2, 2, 4, 13, 25, 4, 4, 10, 6, 30, 6, 5],
+        Mood::Working => [1, 2, 9, 3, 9, 19, 19, 20, 15, 3, 9, 6],
+        Mood::Digging => [1, 1, 5, 60, 10, 4, 4, 5, 3, 7, 6, 4],
     }
 }
 
-pub fn any_call(random: &mut Random, scene: &Scene, mood: Mood) -> Call {
+/// A call on the image of this scene and length.
+pub fn any_call(random: &mut Random, scene: &Scene, length: usize, mood: Mood) -> Call {
     let index = random.weighted(&weights(mood));
-    call(random, scene, mood, index)
+    call(random, scene, length, mood, index)
 }
 
-/// A call of this index.
-pub fn call(random: &mut Random, scene: &Scene, mood: Mood, index: usize) -> Call {
+/// A call of this index. The length is that of the image, which may have been damaged after the scene was seen.
+pub fn call(random: &mut Random, scene: &Scene, length: usize, mood: Mood, index: usize) -> Call {
     match index {
         0 => Call::Format { slots: format_slots(random) },
         1 => Call::Check,
@@ -56,7 +58,8 @@ pub fn call(random: &mut Random, scene: &Scene, mood: Mood, index: usize) -> Cal
             Call::SetLength { path, length }
         }
         9 => Call::Remove { path: path(random, scene, Wish::Removable) },
-        _ => list(random, scene),
+        10 => list(random, scene),
+        _ => check_marked(random, length),
     }
 }
 
@@ -285,4 +288,29 @@ fn list(random: &mut Random, scene: &Scene) -> Call {
 pub fn lend(random: &mut Random, lines: usize) -> Call {
     let over = if random.percent(50) { 0 } else { random.one(&[1, 3, LINE - 1]) };
     Call::List { lent: random.numbers(LINE * lines + over) }
+}
+
+/// The check with lent marks: none, one too few, fewer, just enough, or more.
+pub fn check_marked(random: &mut Random, length: usize) -> Call {
+    let needed = marks_needed(length);
+    let count = match random.below(20) {
+        0..=1 => 0,
+        2..=4 => needed.saturating_sub(1),
+        5 => random.below(needed),
+        6..=12 => needed,
+        13..=14 => needed + 1,
+        _ => needed + random.within(1, 40),
+    };
+    marks(random, count)
+}
+
+/// The check with so many marks: any bytes before, bytes that could be marks, or all alike.
+pub fn marks(random: &mut Random, count: usize) -> Call {
+    let mut marks = random.bytes(count);
+    match random.below(4) {
+        0 => marks.iter_mut().for_each(|mark| *mark %= 8),
+        1 => marks.fill(random.byte()),
+        _ => (),
+    }
+    Call::CheckMarked { marks }
 }

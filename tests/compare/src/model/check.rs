@@ -31,7 +31,7 @@ impl Blocks {
 }
 
 pub fn allowed_length(length: usize) -> bool {
-    length % UNIT == 0 && (SHORTEST..=LONGEST).contains(&length)
+    length.is_multiple_of(UNIT) && (SHORTEST..=LONGEST).contains(&length)
 }
 
 /// A rule: the first breaker, or none.

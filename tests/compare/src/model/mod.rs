@@ -8,6 +8,7 @@ pub mod calls;
 pub mod check;
 pub mod layout;
 pub mod list;
+pub mod marks;
 pub mod name;
 pub mod room;
 pub mod tree;
