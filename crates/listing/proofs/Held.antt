@@ -70,7 +70,8 @@ module _ (os : Objects) (r up n d levels : ℕ) where
       go (suc k) =
           ap (λ (v : List Slot). lineOf r up n d (blockAt os r) ∷ slotLines (λ m o. objectLines k os o r m (suc d)) v) (all-slots (blockAt os r) k)
           ∙ ap (λ (v : ℕ). lineOf r up n d (blockAt os r) ∷ slotLines (λ m o. objectLines k os o r m v) (slotsFrom (blockAt os r) 0 (slotCount (suc k) (blockAt os r) - 0))) (sym (add-one d))
-          ∙ ap (λ (v : ℕ). lineOf r up n d (blockAt os r) ∷ slotLines (λ m o. objectLines v os o r m (d + 1)) (slotsFrom (blockAt os r) 0 (slotCount (suc k) (blockAt os r) - 0))) (sym (pred-suc k))
+          ∙ ap (λ (v : ℕ). lineOf r up n d (blockAt os r) ∷ slotLines (λ m o. objectLines v os o r m (d + 1)) (slotsFrom (blockAt os r) 0 (slotCount (suc k) (blockAt os r) - 0)))
+          (sym (pred-suc k))
 
 -- ---- where slots are gone through there is a directory, with levels below it
 

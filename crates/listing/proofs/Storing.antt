@@ -12,11 +12,12 @@ use Rattle.storage.specs.Bytes.{splice}
 use Rattle.storage.proofs.Splice.{length-splice, sets-splice, splice-append, splice-none}
 use Rattle.storage.proofs.Numbers.{AllBytes}
 use Rattle.alloc.specs.Volume.{Objects, blockAt, objects, volumeOf}
+use Rattle.tree.specs.Fields.{isDir}
 use Rattle.tree.specs.Verdict.{wellFormed}
 use Rattle.listing.specs.Held.{heldLines}
 use Rattle.listing.specs.Numbers.{Stores, numbersOf, sevenOf}
 use Rattle.listing.proofs.Few.{lines-few}
-use Rattle.listing.proofs.Held.{own-first}
+use Rattle.listing.proofs.Held.{count-file, held-none, own-first}
 use Rattle.history.specs.Listing.{Line, lineOf, linesOf, objectLines}
 
 -- seven stores
@@ -124,6 +125,13 @@ module _ {n i j : ℕ} {xs ys : List Line} {m m′ : List ℕ} (f : 7 * n ≤ le
 pub stores-object : (n i : ℕ) (os : Objects) (r up nm d levels : ℕ) {m m′ : List ℕ} → 7 * n ≤ length m → Stores n i (lineOf r up nm d (blockAt os r) ∷ []) m (i + 1) m′
     → {k : ℕ} {m″ : List ℕ} → Stores n (i + 1) (heldLines levels os r d 0) m′ k m″ → Stores n i (objectLines levels os r up nm d) m k m″
 stores-object n i os r up nm d levels {m} f v {k} {m″} w = subst (λ (ls : List Line). Stores n i ls m k m″) (sym (own-first os r up nm d levels)) (stores-both f v w)
+
+-- a file: its own line alone
+pub stores-file : (n i : ℕ) (os : Objects) (r up nm d levels : ℕ) {m m′ : List ℕ} → isDir (blockAt os r) ≡ false → Stores n i (lineOf r up nm d (blockAt os r) ∷ []) m (i + 1) m′
+    → Stores n i (objectLines levels os r up nm d) m (i + 1) m′
+stores-file n i os r up nm d levels {m} {m′} e v =
+    subst (λ (ls : List Line). Stores n i ls m (i + 1) m′)
+    (sym (own-first os r up nm d levels ∙ ap (λ (ls : List Line). lineOf r up nm d (blockAt os r) ∷ ls) (held-none os r d levels 0 (omega (arith, count-file (blockAt os r) levels e))))) v
 
 -- room for all is room for what follows the first
 pub object-behind : (os : Objects) (r up nm d levels i : ℕ) {m : ℕ} → i + length (objectLines levels os r up nm d) ≤ m → i + 1 + length (heldLines levels os r d 0) ≤ m

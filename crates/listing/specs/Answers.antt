@@ -1,23 +1,22 @@
 -- What the answers of this crate's functions say, and what they require.
-use Prim.Native.Nat.{_-_, _<_, _≤_, suc, zero, ℕ}
+use Prim.Native.Nat.{_<_, _≤_, suc, zero, ℕ}
 use mathlib.Core.List.{List, [], _++_, _∷_, map}
 use mathlib.Core.Path.{_≡_}
 use mathlib.Core.Bool.{true}
 use mathlib.Core.Option.{Option, none, some}
 use lib.ListN.{drop, getD, length}
 use Rattle.storage.specs.declared.Ref.{Ref}
-use Rattle.alloc.specs.Volume.{volumeOf, objects}
-use Rattle.tree.specs.Fields.{total, slotsFrom}
+use Rattle.tree.specs.Fields.{total}
 use Rattle.tree.specs.Verdict.{wellFormed}
 use Rattle.calls.specs.declared.refusal.Refusal.{Refusal}
 use Rattle.calls.specs.declared.reading.Kind as declared-kind
 use Rattle.calls.specs.declared.reading.Kind.the-variants.{File, Directory}
 use Rattle.calls.specs.Answers.{kindIs}
-use Rattle.calls.specs.Reading.{Kind, file, directory, blockIn}
+use Rattle.calls.specs.Reading.{Kind, file, directory}
 use Rattle.listing.specs.declared.lines.Line as declared-line
 use Rattle.listing.specs.declared.seek.Seen.{Seen}
 use Rattle.listing.specs.declared.seek.Seen.the-variants.{Here, Nothing}
-use Rattle.history.specs.Listing.{Line, Listed, slotLines, objectLines, linesOf, list}
+use Rattle.history.specs.Listing.{Line, Listed, linesOf, list}
 
 abbrev pub lineIs : declared-line.Line → Line
 lineIs l = record { ref = l .at .0; parent = l .parent .0; name = l .name .0; depth = l .depth; kind = kindIs (l .kind) }

@@ -2,6 +2,7 @@
 
 use crate::lines;
 use crate::numbers;
+use alloc::block;
 use storage::Ref;
 use tree::fields;
 ghost use mathlib.Core.Path.{_≡_};
@@ -56,6 +57,9 @@ fn object(
     ensures { λ k. ⌜ Stores n i (objectLines levels (objects (volumeOf (now (image .entry)))) (r .0) (up .0) (name .0) depth) (now (numbers .entry)) k (now (numbers .exit)) ⌝ }
 {
     own(image, numbers, n, r, up, name, depth, i);
+    if block::magic_at(image, r) != block::SFDE {
+        return i + 1;
+    }
     slots(image, numbers, n, r, depth, levels, i + 1)
 }
 

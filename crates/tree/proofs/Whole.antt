@@ -8,35 +8,26 @@ use native.Mathlib.Omega.{arith}
 use native.Mathlib.Nat.{zero-add}
 use lib.Dec.{eqb, leb}
 use borrow.Author.Tests.{eq-eqb, ne-eqb, lt-leb}
-use lib.ListN.{length, getD, take, drop, replicate, length-append, length-replicate, length-map, List·getD-map}
+use lib.ListN.{length, getD, take, drop, length-replicate, length-map, List·getD-map}
 use lib.Seq.{ext-getD, getD-take, length-take-le}
 use Rattle.storage.specs.Bytes.{splice, zeroed}
 use Rattle.storage.proofs.Splice.{length-splice, splice-inside}
-use Rattle.alloc.specs.Block.{Block, SF01, SFde, SFna, SFre, SFfr, units, blocksOf, blockOf, unitsFor, sizeAt}
+use Rattle.alloc.specs.Block.{Block, SF01, SFde, SFna, SFre, SFfr, units, blocksOf, unitsFor, sizeAt}
 use Rattle.alloc.specs.Sound.{Tiled}
-use Rattle.alloc.specs.Tiling.{lengthAllowed, within, tilingBreaker}
-use Rattle.alloc.specs.Volume.{Objects, volumeOf, objects, chained}
+use Rattle.alloc.specs.Tiling.{lengthAllowed}
+use Rattle.alloc.specs.Volume.{volumeOf, objects, chained}
 use Rattle.alloc.specs.Marks.{markOf, marksFrom, marksOf, Marked, Marking}
 use Rattle.alloc.proofs.Tiles.{tiles-length}
 use Rattle.alloc.proofs.Cuts.{length-parts, tiled-length, Cut, cut-start, cut-on}
 use Rattle.tree.proofs.Visits.{Visits, visits-start, visits-on, visits-end}
 use Rattle.alloc.proofs.Marking.{marks-of-long}
 use Rattle.tree.specs.Verdict.{Verdict, BlockRule, rule3, rule4, rule5, rule6, rule7, keeps, breakerOf, unbroken, blockRules, verdictOn, verdict, wellFormed}
-use Rattle.tree.specs.Answers.{Ready, spared, KeepsAll, NoneBroken}
+use Rattle.tree.specs.Answers.{Ready, KeepsAll, NoneBroken}
 use Rattle.tree.specs.Marks.{noted, Noted, Fresh, Countable, Annotated, marksAfter, Judges, Decides, trimmed}
 use Rattle.tree.proofs.Noting.{noted-tells, noted-annotated}
 use Rattle.tree.proofs.Judging.{judged-tiling, judged-after, blocks-kept}
 
--- ---- rule 3 comes first, and needs nothing counted
-
-pub ready-first : {s m : List ℕ} (root : ℕ) → Marked s m → Ready s m rule3 root
-ready-first root w = record {
-  marked = w;
-  counts = λ e. let z : _≡_ {A = ℕ} 0 1 = cc in absurd (omega arith);
-  slots-hold = λ e. let z : _≡_ {A = ℕ} 0 1 = cc in absurd (omega arith);
-}
-
--- then the namings are counted
+-- ---- the namings are counted
 module _ {s m m′ : List ℕ} {root : ℕ} (c : Countable s m root) (e : m′ ≡ noted (objects (volumeOf s)) m) where
   pub counted-annotated : Annotated s m m′
   counted-annotated = subst (Annotated s m) (sym e) (noted-annotated c)
@@ -139,7 +130,9 @@ module _ {s m m′ : List ℕ} {v : Verdict} (d : Decides s m v m′) where
       let w = d .kinds-are n in
       record {
         verdict-is = d .verdict-is;
-        marks-are = e ∙ ap (splice m′ 0) (marked-trimmed w) ∙ splice-front-same m m′ (marksOf s) (length s / 16) (marks-of-long (w .tiled)) (d .beyond) ∙ sym (ap (splice m 0) (after-kept n));
+        marks-are =
+            e ∙ ap (splice m′ 0) (marked-trimmed w) ∙ splice-front-same m m′ (marksOf s) (length s / 16) (marks-of-long (w .tiled)) (d .beyond) ∙ sym
+            (ap (splice m 0) (after-kept n));
       }
 
 -- ---- rule 1, then the others
@@ -189,18 +182,6 @@ pub countable : {s m : List ℕ} (root : ℕ) {o : Option ℕ} → Fresh s m →
 countable root f e z = record { fresh = f; rule-3 = sym e ∙ z }
 
 -- ---- one walk for rules 4 to 7
-
-module _ {s : List ℕ} {root r : ℕ} {a b c d : Bool} (e4 : a ≡ spared (keeps rule4 (objects (volumeOf s)) root) r (blockOf s r)) (e5 : b ≡ spared (keeps rule5 (objects (volumeOf s)) root) r (blockOf s r))
-    (e6 : c ≡ spared (keeps rule6 (objects (volumeOf s)) root) r (blockOf s r)) (e7 : d ≡ spared (keeps rule7 (objects (volumeOf s)) root) r (blockOf s r)) where
-  pub keeps-each : a ≡ true → b ≡ true → c ≡ true → d ≡ true → KeepsAll s root r
-  keeps-each ta tb tc td = record { each = go }
-    where
-      go : (n : BlockRule) → (n ≡ rule3 → ⊥) → spared (keeps n (objects (volumeOf s)) root) r (blockOf s r) ≡ true
-      go rule3 k = absurd (k refl)
-      go rule4 k = sym e4 ∙ ta
-      go rule5 k = sym e5 ∙ tb
-      go rule6 k = sym e6 ∙ tc
-      go rule7 k = sym e7 ∙ td
 
 pub never-true : {C : Type 0} → false ≡ true → C
 never-true e = let z : _≡_ {A = ℕ} 0 1 = cc in absurd (omega arith)

@@ -275,12 +275,12 @@ pub fn judge_marked(image: &[u8], marks: &mut [u8]) -> Verdict
     v
 }
 
-// Up to 256 units.
+// Up to 64 units.
 fn judge_small(image: &[u8]) -> Verdict
-    requires { ⌜ length (now image) ≤ 4096 ⌝ }
+    requires { ⌜ length (now image) ≤ 1024 ⌝ }
     ensures { λ v. ⌜ verdictOf v ≡ verdict (now (image .entry)) ⌝ }
 {
-    let mut marks = [0u8; 256];
+    let mut marks = [0u8; 64];
     decide(image, &mut marks)
 }
 
@@ -315,7 +315,7 @@ pub fn judge(image: &[u8]) -> Verdict
             place: Ref(0),
         };
     }
-    if len <= 4096 {
+    if len <= 1024 {
         return judge_small(image);
     }
     if len <= 65536 {

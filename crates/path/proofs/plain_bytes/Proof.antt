@@ -1,11 +1,9 @@
+-- plain_bytes: the bytes passed are allowed, and each is a character.
 use Rattle.path.proofs.plain_bytes.Statement.{statement}
 use Rattle.path.proofs.plain_bytes.Tie as tie
-use Rattle.path.proofs.plain_bytes.Reads as reads
-use Rattle.path.proofs.plain_bytes.Lts as lts
-use Rattle.path.proofs.forbidden_byte.Reads as forbidden-byte-reads
 use Prim.Native.Nat.{_-_}
 use mathlib.Core.Path.{_∙_, refl, sym}
-use mathlib.Core.Bool.{false, true, true≢false}
+use mathlib.Core.Bool.{false, true≢false}
 use native.Mathlib.Omega.{arith}
 use lib.ListN.{length}
 use Rattle.path.specs.Name.{allowed, encoded}

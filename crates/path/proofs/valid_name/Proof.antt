@@ -1,12 +1,7 @@
+-- valid_name: the length; a plain name has only to be no dots; else the three tests of the bytes.
 use borrow.Author.Needs.{needs}
 use Rattle.path.proofs.valid_name.Statement.{statement}
 use Rattle.path.proofs.valid_name.Tie as tie
-use Rattle.path.proofs.valid_name.Reads as reads
-use Rattle.path.proofs.valid_name.Lts as lts
-use Rattle.path.proofs.allowed_bytes.Reads as allowed-bytes-reads
-use Rattle.path.proofs.only_dots.Reads as only-dots-reads
-use Rattle.path.proofs.plain_bytes.Reads as plain-bytes-reads
-use Rattle.path.proofs.whole_characters.Reads as whole-characters-reads
 use mathlib.Core.Path.{_∙_, ap}
 use mathlib.Core.Bool.{_&&_, not}
 use native.Mathlib.Omega.{arith}

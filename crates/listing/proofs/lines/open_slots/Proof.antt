@@ -17,12 +17,18 @@ returns-2 : tie.Need-returns-2
 returns-2 c = count-file _ _ (no-directory (λ i. c .before .before .before .shared-slice-known .given i .fits) (c .before .before .before .before .pre) (c .before .magic-at .ensures) (c .if2 .taken))
 
 slot-count-requires : tie.Need-slot-count-requires
-slot-count-requires c κs = directory-stands (λ i. c .before .before .before .shared-slice-known .given i .fits) (object-directory (λ i. c .before .before .before .shared-slice-known .given i .fits) (c .before .before .before .before .pre) (c .before .magic-at .ensures) (c .if2 .left)) .0
+slot-count-requires c κs =
+    directory-stands (λ i. c .before .before .before .shared-slice-known .given i .fits)
+    (object-directory (λ i. c .before .before .before .shared-slice-known .given i .fits) (c .before .before .before .before .pre) (c .before .magic-at .ensures) (c .if2 .left)) .0
 
 returns-3 : tie.Need-returns-3
 returns-3 c =
-    c .slot-count .ensures ∙ ap total (directory-stands (λ i. c .before .before .before .before .shared-slice-known .given i .fits) (object-directory (λ i. c .before .before .before .before .shared-slice-known .given i .fits) (c .before .before .before .before .before .pre) (c .before .before .magic-at .ensures) (c .before .if2 .left)) .1)
-    ∙ count-all _ _ (c .before .before .before .if1 .left) ((object-directory (λ i. c .before .before .before .before .shared-slice-known .given i .fits) (c .before .before .before .before .before .pre) (c .before .before .magic-at .ensures) (c .before .if2 .left)) .kind)
+    c .slot-count .ensures ∙ ap total (directory-stands (λ i. c .before .before .before .before .shared-slice-known .given i .fits)
+    (object-directory (λ i. c .before .before .before .before .shared-slice-known .given i .fits) (c .before .before .before .before .before .pre) (c .before .before .magic-at .ensures)
+    (c .before .if2 .left)) .1)
+    ∙ count-all _ _ (c .before .before .before .if1 .left)
+    ((object-directory (λ i. c .before .before .before .before .shared-slice-known .given i .fits) (c .before .before .before .before .before .pre)
+    (c .before .before .magic-at .ensures) (c .before .if2 .left)) .kind)
 
 pub open-slots-spec : {M : Type 1} → statement M
 open-slots-spec =

@@ -85,7 +85,12 @@ same-length : tie.Need-same-length
 same-length c = simp length-set (omega arith)
 
 returns : tie.Need-returns
-returns c = store-seven _ _ _ _ _ _ _ _ _ (c .before .before .before .before .before .before .before .pre) ∙ λ i. splice (c .before .before .before .before .before .before .before .args .numbers .now) (c .before .before .before .before .before .before .before .args .at) ((c .before .before .before .before .before .before .before .args .l .at .0) ∷ (c .before .before .before .before .before .before .before .args .l .parent .0) ∷ (c .before .before .before .before .before .before .before .args .l .name .0) ∷ (c .before .before .before .before .before .before .before .args .l .depth) ∷ (c .before .before .directory-of .ensures) i ∷ (c .before .first-of .ensures) i ∷ (c .second-of .ensures) i ∷ [])
+returns c =
+    store-seven _ _ _ _ _ _ _ _ _ (c .before .before .before .before .before .before .before .pre) ∙ λ i. splice
+    (c .before .before .before .before .before .before .before .args .numbers .now) (c .before .before .before .before .before .before .before .args .at)
+    ((c .before .before .before .before .before .before .before .args .l .at .0) ∷ (c .before .before .before .before .before .before .before .args .l .parent .0) ∷
+    (c .before .before .before .before .before .before .before .args .l .name .0) ∷ (c .before .before .before .before .before .before .before .args .l .depth) ∷
+    (c .before .before .directory-of .ensures) i ∷ (c .before .first-of .ensures) i ∷ (c .second-of .ensures) i ∷ [])
 
 pub put-spec : {M : Type 1} → statement M
 put-spec =

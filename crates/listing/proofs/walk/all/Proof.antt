@@ -1,12 +1,8 @@
-use borrow.Author.Needs.{needs}
+-- all: from the root, with 16 levels.
 use Rattle.listing.proofs.walk.all.Statement.{statement}
 use Rattle.listing.proofs.walk.all.Tie as tie
-use Rattle.listing.proofs.walk.all.Reads as reads
-use Rattle.listing.proofs.walk.all.Lts as lts
-use Rattle.alloc.proofs.chain.root.Reads as root-reads
-use Rattle.listing.proofs.walk.object.Reads as object-reads
 use Prim.Native.Nat.{ℕ}
-use mathlib.Core.Path.{_∙_, subst, sym}
+use mathlib.Core.Path.{subst, sym}
 use native.Mathlib.Omega.{arith}
 use Rattle.tree.proofs.Formed.{formed-tiled}
 use Rattle.calls.specs.Answers.{ObjectAt}
@@ -17,7 +13,13 @@ root-requires : tie.Need-root-requires
 root-requires c κs = formed-tiled _ (λ i. c .before .shared-slice-known .given i .fits) (c .before .before .pre .0)
 
 object-requires : tie.Need-object-requires
-object-requires c κs = (subst (λ (r : ℕ). ObjectAt (c .before .before .before .before .args .image .now) r) (sym (c .before .root .ensures)) (root-object (λ i. c .before .before .before .shared-slice-known .given i .fits) (c .before .before .before .before .pre .0)), omega arith, c .before .before .before .before .pre .1, root-few _ (c .before .root .ensures) (λ i. c .before .before .before .shared-slice-known .given i .fits) (c .before .before .before .before .pre .0))
+object-requires c κs = (
+  subst (λ (r : ℕ). ObjectAt (c .before .before .before .before .args .image .now) r) (sym (c .before .root .ensures))
+      (root-object (λ i. c .before .before .before .shared-slice-known .given i .fits) (c .before .before .before .before .pre .0)),
+  omega arith,
+  c .before .before .before .before .pre .1,
+  root-few _ (c .before .root .ensures) (λ i. c .before .before .before .shared-slice-known .given i .fits) (c .before .before .before .before .pre .0),
+)
 
 same-length : tie.Need-same-length
 same-length c = c .before .before .object .ensures .same-size

@@ -1,9 +1,6 @@
-use borrow.Author.Needs.{needs}
+-- fill: none, or those of the walk.
 use Rattle.listing.proofs.walk.fill.Statement.{statement}
 use Rattle.listing.proofs.walk.fill.Tie as tie
-use Rattle.listing.proofs.walk.fill.Reads as reads
-use Rattle.listing.proofs.walk.fill.Lts as lts
-use Rattle.listing.proofs.walk.all.Reads as all-reads
 use native.Mathlib.Omega.{arith}
 use Rattle.listing.proofs.Storing.{stored-first, stored-none}
 

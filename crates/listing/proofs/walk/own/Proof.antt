@@ -1,10 +1,7 @@
+-- own: the line is past the last, or it is stored.
 use borrow.Author.Needs.{needs}
 use Rattle.listing.proofs.walk.own.Statement.{statement}
 use Rattle.listing.proofs.walk.own.Tie as tie
-use Rattle.listing.proofs.walk.own.Reads as reads
-use Rattle.listing.proofs.walk.own.Lts as lts
-use Rattle.listing.proofs.lines.line_of.Reads as line-of-reads
-use Rattle.listing.proofs.numbers.put.Reads as put-reads
 use Rattle.listing.proofs.Storing.{stores-line, stores-past}
 use native.Mathlib.Omega.{arith}
 
@@ -24,7 +21,9 @@ same-length : tie.Need-same-length
 same-length c = search needs
 
 returns-2 : tie.Need-returns-2
-returns-2 c = stores-line _ _ _ (omega arith) (c .before .before .before .before .before .before .before .before .pre .1) (c .before .before .before .before .line-of .ensures) (c .before .before .put .ensures)
+returns-2 c =
+    stores-line _ _ _ (omega arith) (c .before .before .before .before .before .before .before .before .pre .1) (c .before .before .before .before .line-of .ensures)
+    (c .before .before .put .ensures)
 
 pub own-spec : {M : Type 1} → statement M
 own-spec = tie.close (tie.spec returns line-of-requires mul-put put-requires same-length returns-2)

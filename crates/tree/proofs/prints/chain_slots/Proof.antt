@@ -20,40 +20,123 @@ mul-chain-of : tie.Need-mul-chain-of Inv-loop μ-loop
 mul-chain-of c = omega (arith, c .before .before .before .before .before .pre .few, c .before .before .before .before .before .pre .prints, c .before .loop .inv .inside)
 
 shared-slice-read-chain-of : tie.Need-shared-slice-read-chain-of Inv-loop μ-loop
-shared-slice-read-chain-of c = omega (arith, c .before .before .before .before .before .before .pre .few, c .before .before .before .before .before .before .pre .prints, c .before .before .loop .inv .inside)
+shared-slice-read-chain-of c =
+    omega (arith, c .before .before .before .before .before .before .pre .few, c .before .before .before .before .before .before .pre .prints, c .before .before .loop .inv .inside)
 
 chain-of-requires : tie.Need-chain-of-requires Inv-loop μ-loop
 chain-of-requires c κs = tt
 
 mul-links : tie.Need-mul-links Inv-loop μ-loop
-mul-links c = omega (arith, c .before .before .before .before .before .before .before .pre .few, c .before .before .before .before .before .before .before .pre .links, c .before .before .before .before .before .before .before .pre .heads, c .before .before .before .loop .inv .inside, c .before .before .before .loop .inv .long, c .before .before .before .loop .inv .wide, c .chain-of .ensures .1)
+mul-links c =
+    omega (
+      arith,
+      c .before .before .before .before .before .before .before .pre .few,
+      c .before .before .before .before .before .before .before .pre .links,
+      c .before .before .before .before .before .before .before .pre .heads,
+      c .before .before .before .loop .inv .inside,
+      c .before .before .before .loop .inv .long,
+      c .before .before .before .loop .inv .wide,
+      c .chain-of .ensures .1,
+    )
 
 slice-read-links : tie.Need-slice-read-links Inv-loop μ-loop
-slice-read-links c = omega (arith, c .before .before .before .before .before .before .before .before .pre .few, c .before .before .before .before .before .before .before .before .pre .links, c .before .before .before .before .before .before .before .before .pre .heads, c .before .before .before .before .loop .inv .inside, c .before .before .before .before .loop .inv .long, c .before .before .before .before .loop .inv .wide, c .before .chain-of .ensures .1)
+slice-read-links c =
+    omega (
+      arith,
+      c .before .before .before .before .before .before .before .before .pre .few,
+      c .before .before .before .before .before .before .before .before .pre .links,
+      c .before .before .before .before .before .before .before .before .pre .heads,
+      c .before .before .before .before .loop .inv .inside,
+      c .before .before .before .before .loop .inv .long,
+      c .before .before .before .before .loop .inv .wide,
+      c .before .chain-of .ensures .1,
+    )
 
 mul-links-2 : tie.Need-mul-links-2 Inv-loop μ-loop
-mul-links-2 c = omega (arith, c .before .before .before .before .before .before .before .before .pre .few, c .before .before .before .before .before .before .before .before .pre .links, c .before .before .before .before .before .before .before .before .pre .heads, c .before .before .before .before .loop .inv .inside, c .before .before .before .before .loop .inv .long, c .before .before .before .before .loop .inv .wide, c .before .chain-of .ensures .1)
+mul-links-2 c =
+    omega (
+      arith,
+      c .before .before .before .before .before .before .before .before .pre .few,
+      c .before .before .before .before .before .before .before .before .pre .links,
+      c .before .before .before .before .before .before .before .before .pre .heads,
+      c .before .before .before .before .loop .inv .inside,
+      c .before .before .before .before .loop .inv .long,
+      c .before .before .before .before .loop .inv .wide,
+      c .before .chain-of .ensures .1,
+    )
 
 slice-write-links : tie.Need-slice-write-links Inv-loop μ-loop
-slice-write-links c = omega (arith, c .before .before .before .before .before .before .before .before .pre .few, c .before .before .before .before .before .before .before .before .pre .links, c .before .before .before .before .before .before .before .before .pre .heads, c .before .before .before .before .loop .inv .inside, c .before .before .before .before .loop .inv .long, c .before .before .before .before .loop .inv .wide, c .before .chain-of .ensures .1)
+slice-write-links c =
+    omega (
+      arith,
+      c .before .before .before .before .before .before .before .before .pre .few,
+      c .before .before .before .before .before .before .before .before .pre .links,
+      c .before .before .before .before .before .before .before .before .pre .heads,
+      c .before .before .before .before .loop .inv .inside,
+      c .before .before .before .before .loop .inv .long,
+      c .before .before .before .before .loop .inv .wide,
+      c .before .chain-of .ensures .1,
+    )
 
 sub-heads : tie.Need-sub-heads Inv-loop μ-loop
-sub-heads c = omega (arith, c .before .before .before .before .before .before .before .before .pre .few, c .before .before .before .before .before .before .before .before .pre .links, c .before .before .before .before .before .before .before .before .pre .heads, c .before .before .before .before .loop .inv .inside, c .before .before .before .before .loop .inv .long, c .before .before .before .before .loop .inv .wide, c .before .chain-of .ensures .1)
+sub-heads c =
+    omega (
+      arith,
+      c .before .before .before .before .before .before .before .before .pre .few,
+      c .before .before .before .before .before .before .before .before .pre .links,
+      c .before .before .before .before .before .before .before .before .pre .heads,
+      c .before .before .before .before .loop .inv .inside,
+      c .before .before .before .before .loop .inv .long,
+      c .before .before .before .before .loop .inv .wide,
+      c .before .chain-of .ensures .1,
+    )
 
 cast-heads : tie.Need-cast-heads Inv-loop μ-loop
-cast-heads c = omega (arith, c .before .before .before .before .before .before .before .before .pre .few, c .before .before .before .before .before .before .before .before .pre .links, c .before .before .before .before .before .before .before .before .pre .heads, c .before .before .before .before .loop .inv .inside, c .before .before .before .before .loop .inv .long, c .before .before .before .before .loop .inv .wide, c .before .chain-of .ensures .1)
+cast-heads c =
+    omega (
+      arith,
+      c .before .before .before .before .before .before .before .before .pre .few,
+      c .before .before .before .before .before .before .before .before .pre .links,
+      c .before .before .before .before .before .before .before .before .pre .heads,
+      c .before .before .before .before .loop .inv .inside,
+      c .before .before .before .before .loop .inv .long,
+      c .before .before .before .before .loop .inv .wide,
+      c .before .chain-of .ensures .1,
+    )
 
 mul-heads : tie.Need-mul-heads Inv-loop μ-loop
-mul-heads c = omega (arith, c .before .before .before .before .before .before .before .before .pre .few, c .before .before .before .before .before .before .before .before .pre .links, c .before .before .before .before .before .before .before .before .pre .heads, c .before .before .before .before .loop .inv .inside, c .before .before .before .before .loop .inv .long, c .before .before .before .before .loop .inv .wide, c .before .chain-of .ensures .1)
+mul-heads c =
+    omega (
+      arith,
+      c .before .before .before .before .before .before .before .before .pre .few,
+      c .before .before .before .before .before .before .before .before .pre .links,
+      c .before .before .before .before .before .before .before .before .pre .heads,
+      c .before .before .before .before .loop .inv .inside,
+      c .before .before .before .before .loop .inv .long,
+      c .before .before .before .before .loop .inv .wide,
+      c .before .chain-of .ensures .1,
+    )
 
 slice-write-heads : tie.Need-slice-write-heads Inv-loop μ-loop
-slice-write-heads c = omega (arith, c .before .before .before .before .before .before .before .before .pre .few, c .before .before .before .before .before .before .before .before .pre .links, c .before .before .before .before .before .before .before .before .pre .heads, c .before .before .before .before .loop .inv .inside, c .before .before .before .before .loop .inv .long, c .before .before .before .before .loop .inv .wide, c .before .chain-of .ensures .1)
+slice-write-heads c =
+    omega (
+      arith,
+      c .before .before .before .before .before .before .before .before .pre .few,
+      c .before .before .before .before .before .before .before .before .pre .links,
+      c .before .before .before .before .before .before .before .before .pre .heads,
+      c .before .before .before .before .loop .inv .inside,
+      c .before .before .before .before .loop .inv .long,
+      c .before .before .before .before .loop .inv .wide,
+      c .before .chain-of .ensures .1,
+    )
 
 loop-less : tie.Need-loop-less Inv-loop μ-loop
 loop-less c = omega arith
 
 loop-again : tie.Need-loop-again Inv-loop μ-loop
-loop-again c = linking-on (c .before .before .before .before .before .before .before .before .pre) (c .before .before .before .before .loop .inv) _ (c .before .chain-of .result) (omega arith) (c .before .chain-of .ensures .0) (c .before .chain-of .ensures .1)
+loop-again c =
+    linking-on (c .before .before .before .before .before .before .before .before .pre) (c .before .before .before .before .loop .inv) _ (c .before .chain-of .result) (omega arith)
+    (c .before .chain-of .ensures .0) (c .before .chain-of .ensures .1)
 
 same-length : tie.Need-same-length Inv-loop μ-loop
 same-length c = c .before .loop .inv .wide

@@ -25,7 +25,12 @@ cast-prints : tie.Need-cast-prints Inv-loop μ-loop
 cast-prints c = omega (arith, c .slot-print .ensures .1)
 
 mul-prints : tie.Need-mul-prints Inv-loop μ-loop
-mul-prints c = omega (arith, slot-inside (c .before .before .before .before .before .before .pre .0 .directory) (c .before .before .loop .i) (omega (arith, c .before .before .before .slot-count .ensures)))
+mul-prints c =
+    omega (
+      arith,
+      slot-inside (c .before .before .before .before .before .before .pre .0 .directory) (c .before .before .loop .i)
+          (omega (arith, c .before .before .before .slot-count .ensures)),
+    )
 
 slice-write-prints : tie.Need-slice-write-prints Inv-loop μ-loop
 slice-write-prints c = omega (arith, c .before .before .loop .inv .long, c .before .before .before .before .before .before .pre .1, c .before .before .before .slot-count .ensures)
@@ -37,13 +42,20 @@ loop-less : tie.Need-loop-less Inv-loop μ-loop
 loop-less c = omega arith
 
 loop-again : tie.Need-loop-again Inv-loop μ-loop
-loop-again c = filling-on (c .before .before .loop .inv) (omega (arith, c .before .before .before .before .before .before .pre .1, c .before .before .before .slot-count .ensures)) _ (c .slot-print .ensures .0)
+loop-again c =
+    filling-on (c .before .before .loop .inv) (omega (arith, c .before .before .before .before .before .before .pre .1, c .before .before .before .slot-count .ensures)) _
+    (c .slot-print .ensures .0)
 
 same-length : tie.Need-same-length Inv-loop μ-loop
 same-length c = c .before .loop .inv .long
 
 returns : tie.Need-returns Inv-loop μ-loop
-returns c = record { long = omega (arith, c .before .loop .inv .long, c .before .before .before .before .before .pre .1); each = λ k h. c .before .loop .inv .each k (omega (arith, c .before .before .slot-count .ensures)) }
+returns c =
+    record {
+      long = omega (arith, c .before .loop .inv .long, c .before .before .before .before .before .pre .1);
+      each = λ k h. c .before .loop .inv .each k
+          (omega (arith, c .before .before .slot-count .ensures));
+    }
 
 pub fill-prints-spec : {M : Type 1} → statement M
 fill-prints-spec =

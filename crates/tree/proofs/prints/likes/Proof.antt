@@ -2,7 +2,6 @@
 use Prim.Native.Nat.{_-_}
 use mathlib.Core.Path.{refl}
 use native.Mathlib.Omega.{arith}
-use borrow.Author.Needs.{needs}
 use Rattle.tree.proofs.Printing.{Likes, likes-start, likes-on, likes-end}
 use Rattle.tree.proofs.prints.likes.Statement.{statement}
 use Rattle.tree.proofs.prints.likes.Tie as tie
@@ -32,7 +31,8 @@ one-if-requires : tie.Need-one-if-requires Inv-loop μ-loop
 one-if-requires c κs = tt
 
 add-count : tie.Need-add-count Inv-loop μ-loop
-add-count c = let k = likes-on (c .before .before .before .loop .inv) (omega arith) _ refl _ (c .one-if .ensures) in omega (arith, k .few, k .high, c .before .before .before .before .before .before .pre)
+add-count c = let k =
+    likes-on (c .before .before .before .loop .inv) (omega arith) _ refl _ (c .one-if .ensures) in omega (arith, k .few, k .high, c .before .before .before .before .before .before .pre)
 
 add-j : tie.Need-add-j Inv-loop μ-loop
 add-j c = omega arith

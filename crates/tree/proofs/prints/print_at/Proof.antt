@@ -32,7 +32,11 @@ print-of-requires : tie.Need-print-of-requires
 print-of-requires c κs = search needs
 
 returns : tie.Need-returns
-returns c = (c .print-of .ensures .0 ∙ ap printOf (slice-read (c .before .before .before .before .before .pre) (c .before .before .before .data-start .ensures) (omega (arith, c .before .before .size-at .ensures))), c .print-of .ensures .1)
+returns c = (
+  c .print-of .ensures .0 ∙ ap printOf
+      (slice-read (c .before .before .before .before .before .pre) (c .before .before .before .data-start .ensures) (omega (arith, c .before .before .size-at .ensures))),
+  c .print-of .ensures .1,
+)
 
 pub print-at-spec : {M : Type 1} → statement M
 print-at-spec =

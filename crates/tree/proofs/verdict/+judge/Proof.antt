@@ -1,3 +1,4 @@
+-- judge: by the length, which falls to none where it is too long.
 use Prim.Native.Nat.{ℕ, _<_}
 use borrow.Fn.Kinds.{In}
 use borrow.Fn.PlainCycle.{Measures, is, falls, and}
