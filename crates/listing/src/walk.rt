@@ -57,13 +57,10 @@ fn object(
     ensures { λ k. ⌜ Stores n i (objectLines levels (objects (volumeOf (now (image .entry)))) (r .0) (up .0) (name .0) depth) (now (numbers .entry)) k (now (numbers .exit)) ⌝ }
 {
     own(image, numbers, n, r, up, name, depth, i);
-    if block::magic_at(image, r) != block::SFDE {
-        return i + 1;
-    }
     slots(image, numbers, n, r, depth, levels, i + 1)
 }
 
-// What the slots of the object at `d` hold.
+// What the slots of the object at `d` hold. A file has its own line alone, and needs no call.
 fn slots(
     image: &[u8],
     numbers: &mut [u64],
@@ -84,6 +81,11 @@ fn slots(
         let o = s.object;
         slot += 1;
         if o.0 == 0 {
+            continue;
+        }
+        if block::magic_at(image, o) != block::SFDE {
+            own(image, numbers, n, o, d, s.name, depth + 1, at);
+            at += 1;
             continue;
         }
         at = object(image, numbers, n, o, d, s.name, depth + 1, levels - 1, at);

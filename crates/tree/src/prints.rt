@@ -5,10 +5,9 @@ use alloc::block;
 use storage::Pos;
 use storage::Ref;
 ghost use mathlib.Core.Path.{_≡_};
-ghost use mathlib.Core.Bool.{cond};
 ghost use Prim.Native.Nat.{_%_, _≤_, _<_};
 ghost use lib.ListN.{length};
-ghost use Rattle.tree.specs.Prints.{printOf, PrintIs, Printed, Unlike, Unchained, Linked, Onward};
+ghost use Rattle.tree.specs.Prints.{printOf, PrintIs, Printed, Unchained, Linked, Onward};
 ghost use Rattle.alloc.specs.Block.{blockOf};
 ghost use Rattle.alloc.specs.Sound.{Standing};
 ghost use Rattle.tree.specs.Fields.{total};
@@ -68,48 +67,6 @@ pub fn fill_prints(image: &[u8], r: Ref, prints: &mut [u16])
         prints[i] = slot_print(image, r, i) as u16;
         i += 1;
     }
-}
-
-fn one_if(t: bool) -> u16
-    ensures { λ n. ⌜ n ≡ cond t 1 0 ⌝ }
-{
-    if t {
-        return 1;
-    }
-    0
-}
-
-// How many slots from `from` on, before `n`, have bits like those of slot `i`.
-fn likes(prints: &[u16], i: usize, from: usize, n: usize) -> u16
-    requires { ⌜ (i < n) × (from ≤ n) × (n ≤ length (now prints)) × (n ≤ 1024) ⌝ }
-    ensures { λ c. ⌜ (c ≡ 0 → Unlike (now (prints .entry)) i from n n) ⌝ }
-{
-    let p = prints[i];
-    let mut count: u16 = 0;
-    let mut j = from;
-    while j < n {
-        count += one_if(prints[j] == p);
-        j += 1;
-    }
-    count
-}
-
-// The first of them, or `n`.
-pub fn next_like(prints: &[u16], i: usize, from: usize, n: usize) -> usize
-    requires { ⌜ (i < n) × (from ≤ n) × (n ≤ length (now prints)) × (n ≤ 1024) ⌝ }
-    ensures { λ k. ⌜ Unlike (now (prints .entry)) i from n k ⌝ }
-{
-    if likes(prints, i, from, n) == 0 {
-        return n;
-    }
-    let mut j = from;
-    while j < n {
-        if prints[j] == prints[i] {
-            return j;
-        }
-        j += 1;
-    }
-    j
 }
 
 // The chain that slots with these bits are in.

@@ -44,110 +44,54 @@ slots-below t = and 2 slots-kinds.ps (falls 2 slots-kinds.ps _<_ μ-slots t) slo
 object-own-requires : (t : ℕ) → object-lts.Need-own-requires (
   own-reads.Asked,
   own-reads.Learnt,
-  magic-at-reads.Asked,
-  magic-at-reads.Learnt,
   slots-below t,
   slots.Post,
 ) (object-at t) object.Post
 object-own-requires t c κs = (c .before .before .before .pre .1 .0, c .before .before .before .pre .1 .2)
 
-object-magic-at-requires : (t : ℕ) → object-lts.Need-magic-at-requires (
-  own-reads.Asked,
-  own-reads.Learnt,
-  magic-at-reads.Asked,
-  magic-at-reads.Learnt,
-  slots-below t,
-  slots.Post,
-) (object-at t) object.Post
-object-magic-at-requires t c κs =
-    omega (
-      arith,
-      object-stands (λ i. c .before .before .before .before .before .shared-slice-known .given i .fits)
-          (c .before .before .before .before .before .before .pre .1 .0) .standing .fits,
-    )
-
-object-add-result : (t : ℕ) → object-lts.Need-add-result (
-  own-reads.Asked,
-  own-reads.Learnt,
-  magic-at-reads.Asked,
-  magic-at-reads.Learnt,
-  slots-below t,
-  slots.Post,
-) (object-at t) object.Post
-object-add-result t c = omega (arith, c .before .before .before .before .before .before .before .before .pre .1 .3)
-
-object-same-length : (t : ℕ) → object-lts.Need-same-length (
-  own-reads.Asked,
-  own-reads.Learnt,
-  magic-at-reads.Asked,
-  magic-at-reads.Learnt,
-  slots-below t,
-  slots.Post,
-) (object-at t) object.Post
-object-same-length t c = c .before .before .before .before .own .ensures .same-size
-
-object-returns : (t : ℕ) → object-lts.Need-returns (
-  own-reads.Asked,
-  own-reads.Learnt,
-  magic-at-reads.Asked,
-  magic-at-reads.Learnt,
-  slots-below t,
-  slots.Post,
-) (object-at t) object.Post
-object-returns t c =
-    stores-file _ _ _ _ _ _ _ _ (no-directory (λ i. c .before .before .before .before .before .before .before .shared-slice-known .given i .fits)
-    (c .before .before .before .before .before .before .before .before .pre .1 .0) (c .before .magic-at .ensures) (c .if1 .taken)) (c .before .before .before .before .own .ensures)
-
 object-add-slots : (t : ℕ) → object-lts.Need-add-slots (
   own-reads.Asked,
   own-reads.Learnt,
-  magic-at-reads.Asked,
-  magic-at-reads.Learnt,
   slots-below t,
   slots.Post,
 ) (object-at t) object.Post
-object-add-slots t c = omega (arith, c .before .before .before .before .before .before .before .before .before .pre .1 .3)
+object-add-slots t c = omega (arith, c .before .before .before .before .before .before .before .pre .1 .3)
 
 object-slots-requires : (t : ℕ) → object-lts.Need-slots-requires (
   own-reads.Asked,
   own-reads.Learnt,
-  magic-at-reads.Asked,
-  magic-at-reads.Learnt,
   slots-below t,
   slots.Post,
 ) (object-at t) object.Post
 object-slots-requires t c κs = (
-  omega (arith, c .before .before .before .before .before .before .before .before .before .pre .0),
+  omega (arith, c .before .before .before .before .before .before .before .pre .0),
   (
-    c .before .before .before .before .before .before .before .before .before .pre .1 .0,
-    c .before .before .before .before .before .before .before .before .before .pre .1 .1,
+    c .before .before .before .before .before .before .before .pre .1 .0,
+    c .before .before .before .before .before .before .before .pre .1 .1,
     omega
-        (arith, c .before .before .before .before .before .before .before .before .before .pre .1 .2, c .before .before .before .before .before .own .ensures .same-size),
-    object-behind _ _ _ _ _ _ _ (c .before .before .before .before .before .before .before .before .before .pre .1 .3),
+        (arith, c .before .before .before .before .before .before .before .pre .1 .2, c .before .before .before .own .ensures .same-size),
+    object-behind _ _ _ _ _ _ _
+        (c .before .before .before .before .before .before .before .pre .1 .3),
   ),
 )
 
-object-same-length-2 : (t : ℕ) → object-lts.Need-same-length-2 (
+object-same-length : (t : ℕ) → object-lts.Need-same-length (
   own-reads.Asked,
   own-reads.Learnt,
-  magic-at-reads.Asked,
-  magic-at-reads.Learnt,
   slots-below t,
   slots.Post,
 ) (object-at t) object.Post
-object-same-length-2 t c = c .before .before .slots .ensures .same-size ∙ c .before .before .before .before .before .before .before .before .own .ensures .same-size
+object-same-length t c = c .before .before .slots .ensures .same-size ∙ c .before .before .before .before .before .before .own .ensures .same-size
 
-object-returns-2 : (t : ℕ) → object-lts.Need-returns-2 (
+object-returns : (t : ℕ) → object-lts.Need-returns (
   own-reads.Asked,
   own-reads.Learnt,
-  magic-at-reads.Asked,
-  magic-at-reads.Learnt,
   slots-below t,
   slots.Post,
 ) (object-at t) object.Post
-object-returns-2 t c =
-    stores-object _ _ _ _ _ _ _ _ (c .before .before .before .before .before .before .before .before .before .before .before .before .pre .1 .2)
-    (c .before .before .before .before .before .before .before .before .own .ensures) (c .before .before .slots .ensures)
+object-returns t c =
+    stores-object _ _ _ _ _ _ _ _ (c .before .before .before .before .before .before .before .before .before .before .pre .1 .2)
+    (c .before .before .before .before .before .before .own .ensures) (c .before .before .slots .ensures)
 
 abbrev slots-Inv-loop : slots-lts.InvT-loop
 slots-Inv-loop image numbers₀ n d depth levels i last at₀ slot₀ numbers at slot =
@@ -161,6 +105,10 @@ slots-open-slots-requires : (t : ℕ) → slots-lts.Need-open-slots-requires (
   open-slots-reads.Learnt,
   slot-at-reads.Asked,
   slot-at-reads.Learnt,
+  magic-at-reads.Asked,
+  magic-at-reads.Learnt,
+  own-reads.Asked,
+  own-reads.Learnt,
   object-below t,
   object.Post,
 ) (slots-at t) slots.Post slots-Inv-loop slots-μ-loop
@@ -171,6 +119,10 @@ slots-loop-holds : (t : ℕ) → slots-lts.Need-loop-holds (
   open-slots-reads.Learnt,
   slot-at-reads.Asked,
   slot-at-reads.Learnt,
+  magic-at-reads.Asked,
+  magic-at-reads.Learnt,
+  own-reads.Asked,
+  own-reads.Learnt,
   object-below t,
   object.Post,
 ) (slots-at t) slots.Post slots-Inv-loop slots-μ-loop
@@ -181,6 +133,10 @@ slots-slot-at-requires : (t : ℕ) → slots-lts.Need-slot-at-requires (
   open-slots-reads.Learnt,
   slot-at-reads.Asked,
   slot-at-reads.Learnt,
+  magic-at-reads.Asked,
+  magic-at-reads.Learnt,
+  own-reads.Asked,
+  own-reads.Learnt,
   object-below t,
   object.Post,
 ) (slots-at t) slots.Post slots-Inv-loop slots-μ-loop
@@ -193,6 +149,10 @@ slots-add-slot : (t : ℕ) → slots-lts.Need-add-slot (
   open-slots-reads.Learnt,
   slot-at-reads.Asked,
   slot-at-reads.Learnt,
+  magic-at-reads.Asked,
+  magic-at-reads.Learnt,
+  own-reads.Asked,
+  own-reads.Learnt,
   object-below t,
   object.Post,
 ) (slots-at t) slots.Post slots-Inv-loop slots-μ-loop
@@ -203,6 +163,10 @@ slots-loop-less : (t : ℕ) → slots-lts.Need-loop-less (
   open-slots-reads.Learnt,
   slot-at-reads.Asked,
   slot-at-reads.Learnt,
+  magic-at-reads.Asked,
+  magic-at-reads.Learnt,
+  own-reads.Asked,
+  own-reads.Learnt,
   object-below t,
   object.Post,
 ) (slots-at t) slots.Post slots-Inv-loop slots-μ-loop
@@ -213,6 +177,10 @@ slots-loop-again : (t : ℕ) → slots-lts.Need-loop-again (
   open-slots-reads.Learnt,
   slot-at-reads.Asked,
   slot-at-reads.Learnt,
+  magic-at-reads.Asked,
+  magic-at-reads.Learnt,
+  own-reads.Asked,
+  own-reads.Learnt,
   object-below t,
   object.Post,
 ) (slots-at t) slots.Post slots-Inv-loop slots-μ-loop
@@ -222,60 +190,83 @@ slots-loop-again t c =
     (c .before .before .before .before .before .before .before .before .before .pre .1 .0) (c .before .before .before .before .before .before .open-slots .ensures) (omega arith)
     (c .before .before .before .slot-at .ensures) _ (c .if1 .taken))
 
-slots-add-object : (t : ℕ) → slots-lts.Need-add-object (
+slots-magic-at-requires : (t : ℕ) → slots-lts.Need-magic-at-requires (
   open-slots-reads.Asked,
   open-slots-reads.Learnt,
   slot-at-reads.Asked,
   slot-at-reads.Learnt,
+  magic-at-reads.Asked,
+  magic-at-reads.Learnt,
+  own-reads.Asked,
+  own-reads.Learnt,
   object-below t,
   object.Post,
 ) (slots-at t) slots.Post slots-Inv-loop slots-μ-loop
-slots-add-object t c = omega (arith, c .before .before .before .before .before .before .before .before .before .before .pre .1 .1)
-
-slots-sub-object : (t : ℕ) → slots-lts.Need-sub-object (
-  open-slots-reads.Asked,
-  open-slots-reads.Learnt,
-  slot-at-reads.Asked,
-  slot-at-reads.Learnt,
-  object-below t,
-  object.Post,
-) (slots-at t) slots.Post slots-Inv-loop slots-μ-loop
-slots-sub-object t c =
+slots-magic-at-requires t c κs =
     omega (
       arith,
-      gone-levels (λ i. c .before .before .before .before .before .before .before .before .before .shared-slice-known .given i .fits) _ {j =
-          c .before .before .before .before .before .before .loop .slot} (c .before .before .before .before .before .before .before .before .before .before .pre .1 .0)
-          (c .before .before .before .before .before .before .before .open-slots .ensures) (omega arith),
+      object-stands (λ i. c .before .before .before .before .before .before .before .before .shared-slice-known .given i .fits)
+          (gone-object (λ i. c .before .before .before .before .before .before .before .before .shared-slice-known .given i .fits) _ {j = c .before .before .before .before .before .loop .slot}
+          (c .before .before .before .before .before .before .before .before .before .pre .1 .0) (c .before .before .before .before .before .before .open-slots .ensures) (omega arith)
+          (c .before .before .before .slot-at .ensures) (c .if1 .left)) .standing .fits,
     )
 
-slots-object-requires : (t : ℕ) → slots-lts.Need-object-requires (
+slots-add-own : (t : ℕ) → slots-lts.Need-add-own (
   open-slots-reads.Asked,
   open-slots-reads.Learnt,
   slot-at-reads.Asked,
   slot-at-reads.Learnt,
+  magic-at-reads.Asked,
+  magic-at-reads.Learnt,
+  own-reads.Asked,
+  own-reads.Learnt,
   object-below t,
   object.Post,
 ) (slots-at t) slots.Post slots-Inv-loop slots-μ-loop
-slots-object-requires t c κs =
-    let l = gone-levels (λ i. c .before .before .before .before .before .before .before .before .before .shared-slice-known .given i .fits) _ {j =
-    c .before .before .before .before .before .before .loop .slot} (c .before .before .before .before .before .before .before .before .before .before .pre .1 .0)
-    (c .before .before .before .before .before .before .before .open-slots .ensures) (omega arith) in (
-      omega (arith, c .before .before .before .before .before .before .before .before .before .before .pre .0),
-      (
-        gone-object (λ i. c .before .before .before .before .before .before .before .before .before .shared-slice-known .given i .fits) _ {j =
-            c .before .before .before .before .before .before .loop .slot} (c .before .before .before .before .before .before .before .before .before .before .pre .1 .0)
-            (c .before .before .before .before .before .before .before .open-slots .ensures) (omega arith) (c .before .before .before .before .slot-at .ensures) (c .before .if1 .left),
-        omega
-            (arith, c .before .before .before .before .before .before .before .before .before .before .pre .1 .1),
-        omega
-            (arith, c .before .before .before .before .before .before .before .before .before .before .pre .1 .2, c .before .before .before .before .before .before .loop .inv .same-size),
-        gone-room (λ i. c .before .before .before .before .before .before .before .before .before .shared-slice-known .given i .fits) _ {j =
-            c .before .before .before .before .before .before .loop .slot} (c .before .before .before .before .before .before .before .before .before .before .pre .1 .0)
-            (c .before .before .before .before .before .before .before .open-slots .ensures) (omega arith) (c .before .before .before .before .slot-at .ensures)
-            (c .before .before .before .before .before .before .before .before .before .before .args .depth) (c .before .if1 .left)
-            (c .before .before .before .before .before .before .loop .at) 4294967296
-            (omega (arith, c .before .before .before .before .before .before .loop .inv .left, c .before .before .before .before .before .before .before .before .before .before .pre .1 .3)),
-      ),
+slots-add-own t c = omega (arith, c .before .before .before .before .before .before .before .before .before .before .before .before .pre .1 .1)
+
+slots-own-requires : (t : ℕ) → slots-lts.Need-own-requires (
+  open-slots-reads.Asked,
+  open-slots-reads.Learnt,
+  slot-at-reads.Asked,
+  slot-at-reads.Learnt,
+  magic-at-reads.Asked,
+  magic-at-reads.Learnt,
+  own-reads.Asked,
+  own-reads.Learnt,
+  object-below t,
+  object.Post,
+) (slots-at t) slots.Post slots-Inv-loop slots-μ-loop
+slots-own-requires t c κs = (
+  gone-object (λ i. c .before .before .before .before .before .before .before .before .before .before .before .shared-slice-known .given i .fits) _ {j =
+      c .before .before .before .before .before .before .before .before .loop .slot}
+      (c .before .before .before .before .before .before .before .before .before .before .before .before .pre .1 .0)
+      (c .before .before .before .before .before .before .before .before .before .open-slots .ensures) (omega arith) (c .before .before .before .before .before .before .slot-at .ensures)
+      (c .before .before .before .if1 .left),
+  omega (
+    arith,
+    c .before .before .before .before .before .before .before .before .before .before .before .before .pre .1 .2,
+    c .before .before .before .before .before .before .before .before .loop .inv .same-size,
+  ),
+)
+
+slots-add-at : (t : ℕ) → slots-lts.Need-add-at (
+  open-slots-reads.Asked,
+  open-slots-reads.Learnt,
+  slot-at-reads.Asked,
+  slot-at-reads.Learnt,
+  magic-at-reads.Asked,
+  magic-at-reads.Learnt,
+  own-reads.Asked,
+  own-reads.Learnt,
+  object-below t,
+  object.Post,
+) (slots-at t) slots.Post slots-Inv-loop slots-μ-loop
+slots-add-at t c =
+    omega (
+      arith,
+      c .before .before .before .before .before .before .before .before .before .before .before .loop .inv .left,
+      c .before .before .before .before .before .before .before .before .before .before .before .before .before .before .before .pre .1 .3,
     )
 
 slots-loop-less-2 : (t : ℕ) → slots-lts.Need-loop-less-2 (
@@ -283,6 +274,10 @@ slots-loop-less-2 : (t : ℕ) → slots-lts.Need-loop-less-2 (
   open-slots-reads.Learnt,
   slot-at-reads.Asked,
   slot-at-reads.Learnt,
+  magic-at-reads.Asked,
+  magic-at-reads.Learnt,
+  own-reads.Asked,
+  own-reads.Learnt,
   object-below t,
   object.Post,
 ) (slots-at t) slots.Post slots-Inv-loop slots-μ-loop
@@ -293,23 +288,154 @@ slots-loop-again-2 : (t : ℕ) → slots-lts.Need-loop-again-2 (
   open-slots-reads.Learnt,
   slot-at-reads.Asked,
   slot-at-reads.Learnt,
+  magic-at-reads.Asked,
+  magic-at-reads.Learnt,
+  own-reads.Asked,
+  own-reads.Learnt,
   object-below t,
   object.Post,
 ) (slots-at t) slots.Post slots-Inv-loop slots-μ-loop
 slots-loop-again-2 t c =
-    storing-on (c .before .before .before .before .before .before .before .before .before .loop .inv) _ _
-    (gone-taken (λ i. c .before .before .before .before .before .before .before .before .before .before .before .before .shared-slice-known .given i .fits) _ {j =
-    c .before .before .before .before .before .before .before .before .before .loop .slot}
-    (c .before .before .before .before .before .before .before .before .before .before .before .before .before .pre .1 .0)
-    (c .before .before .before .before .before .before .before .before .before .before .open-slots .ensures) (omega arith)
-    (c .before .before .before .before .before .before .before .slot-at .ensures) _ (c .before .before .before .before .if1 .left))
-    (c .before .before .before .before .before .before .before .before .before .before .before .before .before .pre .1 .2) (c .before .before .object .ensures)
+    storing-on (c .before .before .before .before .before .before .before .before .before .before .before .loop .inv) _ _
+    (gone-taken (λ i. c .before .before .before .before .before .before .before .before .before .before .before .before .before .before .shared-slice-known .given i .fits) _ {j =
+    c .before .before .before .before .before .before .before .before .before .before .before .loop .slot}
+    (c .before .before .before .before .before .before .before .before .before .before .before .before .before .before .before .pre .1 .0)
+    (c .before .before .before .before .before .before .before .before .before .before .before .before .open-slots .ensures) (omega arith)
+    (c .before .before .before .before .before .before .before .before .before .slot-at .ensures) _ (c .before .before .before .before .before .before .if1 .left))
+    (c .before .before .before .before .before .before .before .before .before .before .before .before .before .before .before .pre .1 .2)
+    (stores-file _ _ _ _ _ _ _ _ (no-directory
+    (λ i. c .before .before .before .before .before .before .before .before .before .before .before .before .before .before .shared-slice-known .given i .fits)
+    (gone-object (λ i. c .before .before .before .before .before .before .before .before .before .before .before .before .before .before .shared-slice-known .given i .fits) _ {j =
+    c .before .before .before .before .before .before .before .before .before .before .before .loop .slot}
+    (c .before .before .before .before .before .before .before .before .before .before .before .before .before .before .before .pre .1 .0)
+    (c .before .before .before .before .before .before .before .before .before .before .before .before .open-slots .ensures) (omega arith)
+    (c .before .before .before .before .before .before .before .before .before .slot-at .ensures) (c .before .before .before .before .before .before .if1 .left))
+    (c .before .before .before .before .before .magic-at .ensures) (c .before .before .before .before .if2 .taken)) (c .before .before .own .ensures))
+
+slots-add-object : (t : ℕ) → slots-lts.Need-add-object (
+  open-slots-reads.Asked,
+  open-slots-reads.Learnt,
+  slot-at-reads.Asked,
+  slot-at-reads.Learnt,
+  magic-at-reads.Asked,
+  magic-at-reads.Learnt,
+  own-reads.Asked,
+  own-reads.Learnt,
+  object-below t,
+  object.Post,
+) (slots-at t) slots.Post slots-Inv-loop slots-μ-loop
+slots-add-object t c = omega (arith, c .before .before .before .before .before .before .before .before .before .before .before .before .pre .1 .1)
+
+slots-sub-object : (t : ℕ) → slots-lts.Need-sub-object (
+  open-slots-reads.Asked,
+  open-slots-reads.Learnt,
+  slot-at-reads.Asked,
+  slot-at-reads.Learnt,
+  magic-at-reads.Asked,
+  magic-at-reads.Learnt,
+  own-reads.Asked,
+  own-reads.Learnt,
+  object-below t,
+  object.Post,
+) (slots-at t) slots.Post slots-Inv-loop slots-μ-loop
+slots-sub-object t c =
+    omega (
+      arith,
+      gone-levels (λ i. c .before .before .before .before .before .before .before .before .before .before .before .shared-slice-known .given i .fits) _ {j =
+          c .before .before .before .before .before .before .before .before .loop .slot}
+          (c .before .before .before .before .before .before .before .before .before .before .before .before .pre .1 .0)
+          (c .before .before .before .before .before .before .before .before .before .open-slots .ensures) (omega arith),
+    )
+
+slots-object-requires : (t : ℕ) → slots-lts.Need-object-requires (
+  open-slots-reads.Asked,
+  open-slots-reads.Learnt,
+  slot-at-reads.Asked,
+  slot-at-reads.Learnt,
+  magic-at-reads.Asked,
+  magic-at-reads.Learnt,
+  own-reads.Asked,
+  own-reads.Learnt,
+  object-below t,
+  object.Post,
+) (slots-at t) slots.Post slots-Inv-loop slots-μ-loop
+slots-object-requires t c κs =
+    let l = gone-levels (λ i. c .before .before .before .before .before .before .before .before .before .before .before .shared-slice-known .given i .fits) _ {j =
+    c .before .before .before .before .before .before .before .before .loop .slot}
+    (c .before .before .before .before .before .before .before .before .before .before .before .before .pre .1 .0)
+    (c .before .before .before .before .before .before .before .before .before .open-slots .ensures) (omega arith) in (
+      omega (arith, c .before .before .before .before .before .before .before .before .before .before .before .before .pre .0),
+      (
+        gone-object (λ i. c .before .before .before .before .before .before .before .before .before .before .before .shared-slice-known .given i .fits) _ {j =
+            c .before .before .before .before .before .before .before .before .loop .slot}
+            (c .before .before .before .before .before .before .before .before .before .before .before .before .pre .1 .0)
+            (c .before .before .before .before .before .before .before .before .before .open-slots .ensures) (omega arith) (c .before .before .before .before .before .before .slot-at .ensures)
+            (c .before .before .before .if1 .left),
+        omega (arith, c .before .before .before .before .before .before .before .before .before .before .before .before .pre .1 .1),
+        omega (
+          arith,
+          c .before .before .before .before .before .before .before .before .before .before .before .before .pre .1 .2,
+          c .before .before .before .before .before .before .before .before .loop .inv .same-size,
+        ),
+        gone-room
+            (λ i. c .before .before .before .before .before .before .before .before .before .before .before .shared-slice-known .given i .fits) _ {j =
+            c .before .before .before .before .before .before .before .before .loop .slot}
+            (c .before .before .before .before .before .before .before .before .before .before .before .before .pre .1 .0)
+            (c .before .before .before .before .before .before .before .before .before .open-slots .ensures) (omega arith) (c .before .before .before .before .before .before .slot-at .ensures)
+            (c .before .before .before .before .before .before .before .before .before .before .before .before .args .depth) (c .before .before .before .if1 .left)
+            (c .before .before .before .before .before .before .before .before .loop .at) 4294967296
+            (omega (
+              arith,
+              c .before .before .before .before .before .before .before .before .loop .inv .left,
+              c .before .before .before .before .before .before .before .before .before .before .before .before .pre .1 .3,
+            )),
+      ),
+    )
+
+slots-loop-less-3 : (t : ℕ) → slots-lts.Need-loop-less-3 (
+  open-slots-reads.Asked,
+  open-slots-reads.Learnt,
+  slot-at-reads.Asked,
+  slot-at-reads.Learnt,
+  magic-at-reads.Asked,
+  magic-at-reads.Learnt,
+  own-reads.Asked,
+  own-reads.Learnt,
+  object-below t,
+  object.Post,
+) (slots-at t) slots.Post slots-Inv-loop slots-μ-loop
+slots-loop-less-3 t c = omega arith
+
+slots-loop-again-3 : (t : ℕ) → slots-lts.Need-loop-again-3 (
+  open-slots-reads.Asked,
+  open-slots-reads.Learnt,
+  slot-at-reads.Asked,
+  slot-at-reads.Learnt,
+  magic-at-reads.Asked,
+  magic-at-reads.Learnt,
+  own-reads.Asked,
+  own-reads.Learnt,
+  object-below t,
+  object.Post,
+) (slots-at t) slots.Post slots-Inv-loop slots-μ-loop
+slots-loop-again-3 t c =
+    storing-on (c .before .before .before .before .before .before .before .before .before .before .before .loop .inv) _ _
+    (gone-taken (λ i. c .before .before .before .before .before .before .before .before .before .before .before .before .before .before .shared-slice-known .given i .fits) _ {j =
+    c .before .before .before .before .before .before .before .before .before .before .before .loop .slot}
+    (c .before .before .before .before .before .before .before .before .before .before .before .before .before .before .before .pre .1 .0)
+    (c .before .before .before .before .before .before .before .before .before .before .before .before .open-slots .ensures) (omega arith)
+    (c .before .before .before .before .before .before .before .before .before .slot-at .ensures) _ (c .before .before .before .before .before .before .if1 .left))
+    (c .before .before .before .before .before .before .before .before .before .before .before .before .before .before .before .pre .1 .2) (c .before .before .object .ensures)
 
 slots-same-length : (t : ℕ) → slots-lts.Need-same-length (
   open-slots-reads.Asked,
   open-slots-reads.Learnt,
   slot-at-reads.Asked,
   slot-at-reads.Learnt,
+  magic-at-reads.Asked,
+  magic-at-reads.Learnt,
+  own-reads.Asked,
+  own-reads.Learnt,
   object-below t,
   object.Post,
 ) (slots-at t) slots.Post slots-Inv-loop slots-μ-loop
@@ -320,6 +446,10 @@ slots-returns : (t : ℕ) → slots-lts.Need-returns (
   open-slots-reads.Learnt,
   slot-at-reads.Asked,
   slot-at-reads.Learnt,
+  magic-at-reads.Asked,
+  magic-at-reads.Learnt,
+  own-reads.Asked,
+  own-reads.Learnt,
   object-below t,
   object.Post,
 ) (slots-at t) slots.Post slots-Inv-loop slots-μ-loop
@@ -329,27 +459,25 @@ pub +object+slots-spec : {M : Type 1} → statement M
 +object+slots-spec = close μ-object μ-slots (λ t. object-lts.spec (
   own-reads.Asked,
   own-reads.Learnt,
-  magic-at-reads.Asked,
-  magic-at-reads.Learnt,
   slots-below t,
   slots.Post,
 )
     (object-at t)
     object.Post
     (object-own-requires t)
-    (object-magic-at-requires t)
-    (object-add-result t)
-    (object-same-length t)
-    (object-returns t)
     (object-add-slots t)
     (object-slots-requires t)
-    (object-same-length-2 t)
-    (object-returns-2 t))
+    (object-same-length t)
+    (object-returns t))
     λ t. slots-lts.spec (
       open-slots-reads.Asked,
       open-slots-reads.Learnt,
       slot-at-reads.Asked,
       slot-at-reads.Learnt,
+      magic-at-reads.Asked,
+      magic-at-reads.Learnt,
+      own-reads.Asked,
+      own-reads.Learnt,
       object-below t,
       object.Post,
     )
@@ -363,10 +491,16 @@ pub +object+slots-spec : {M : Type 1} → statement M
     (slots-add-slot t)
     (slots-loop-less t)
     (slots-loop-again t)
+    (slots-magic-at-requires t)
+    (slots-add-own t)
+    (slots-own-requires t)
+    (slots-add-at t)
+    (slots-loop-less-2 t)
+    (slots-loop-again-2 t)
     (slots-add-object t)
     (slots-sub-object t)
     (slots-object-requires t)
-    (slots-loop-less-2 t)
-    (slots-loop-again-2 t)
+    (slots-loop-less-3 t)
+    (slots-loop-again-3 t)
     (slots-same-length t)
     (slots-returns t)

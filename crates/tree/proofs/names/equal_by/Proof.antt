@@ -18,7 +18,9 @@ shared-slice-read-if1-2 : tie.Need-shared-slice-read-if1-2
 shared-slice-read-if1-2 c = search needs
 
 returns : tie.Need-returns
-returns c = sym (unlike-names (c .before .before .before .before .before .pre .1) _ _ (c .before .before .before .before .before .pre .2) (c .before .before .before .before .before .pre .3) (c .if1 .taken))
+returns c =
+    sym (unlike-names (c .before .before .before .before .before .pre .1) _ _ (c .before .before .before .before .before .pre .2) (c .before .before .before .before .before .pre .3)
+    (c .if1 .taken))
 
 equal-requires : tie.Need-equal-requires
 equal-requires c κs = search needs
