@@ -5,8 +5,7 @@ use mathlib.Core.Bool.{Bool, cond}
 use lib.Dec.{eqb, ltb}
 use lib.ListN.{length}
 use Rattle.storage.specs.Bytes.{splice}
-use Rattle.tree.specs.Verdict.{Verdict, verdict}
-use Rattle.tree.specs.Marks.{marksAfter}
+use Rattle.tree.specs.Verdict.{Verdict, verdict, marksAfter}
 use Rattle.calls.specs.declared.refusal.Reason.{Reason}
 use Rattle.calls.specs.declared.refusal.Reason.the-variants.{BadLength, BadPath, NotFound, NotDirectory, IsDirectory, Exists, NoSlot}
 use Rattle.calls.specs.declared.refusal.Reason.the-variants.{NoRoom, NotEmpty, OutOfBounds, IsRoot, PastRoom, PastEnd, TooFewLines, TooFewMarks}

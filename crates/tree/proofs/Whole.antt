@@ -21,9 +21,9 @@ use Rattle.alloc.proofs.Tiles.{tiles-length}
 use Rattle.alloc.proofs.Cuts.{length-parts, tiled-length, Cut, cut-start, cut-on}
 use Rattle.tree.proofs.Visits.{Visits, visits-start, visits-on, visits-end}
 use Rattle.alloc.proofs.Marking.{marks-of-long}
-use Rattle.tree.specs.Verdict.{Verdict, BlockRule, rule3, rule4, rule5, rule6, rule7, keeps, breakerOf, unbroken, blockRules, verdictOn, verdict, wellFormed}
+use Rattle.tree.specs.Verdict.{Verdict, BlockRule, rule3, rule4, rule5, rule6, rule7, keeps, breakerOf, unbroken, blockRules, verdictOn, verdict, wellFormed, marksAfter}
 use Rattle.tree.specs.Answers.{Ready, KeepsAll, NoneBroken}
-use Rattle.tree.specs.Marks.{noted, Noted, Fresh, Countable, Annotated, marksAfter, Judges, Decides, trimmed}
+use Rattle.tree.specs.Marks.{noted, Noted, Fresh, Countable, Annotated, Judges, Decides, trimmed}
 use Rattle.tree.proofs.Noting.{noted-tells, noted-annotated}
 use Rattle.tree.proofs.Judging.{judged-tiling, judged-after, blocks-kept}
 

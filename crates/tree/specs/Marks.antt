@@ -1,4 +1,4 @@
--- Rule 4 by marks: each naming is counted in the mark of what it names. Nothing above cites these.
+-- Rule 4 by marks: each naming is counted in the mark of what it names. Nothing that a reader must believe rests on these.
 use Prim.Native.Nat.{ℕ, _+_, _*_, _/_, _%_, _<_}
 use mathlib.Core.List.{List, [], _∷_, map}
 use mathlib.Core.Path.{_≡_}
@@ -6,13 +6,13 @@ use mathlib.Core.Bool.{Bool, true, _&&_, _||_, cond, not}
 use mathlib.Core.Option.{Option, none}
 use lib.Dec.{eqb, ltb}
 use lib.ListN.{length, getD, set, drop}
-use Rattle.storage.specs.Bytes.{splice, zeroed}
+use Rattle.storage.specs.Bytes.{splice}
 use Rattle.alloc.specs.Block.{Block}
 use Rattle.alloc.specs.Volume.{Objects, volumeOf, objects, blockAt}
-use Rattle.alloc.specs.Marks.{marksOf, Marked}
+use Rattle.alloc.specs.Marks.{Marked}
 use Rattle.tree.specs.Fields.{isDir, parent, Slot, slots, taken}
 use Rattle.tree.specs.Rules.{namedOnce, rootStands}
-use Rattle.tree.specs.Verdict.{Verdict, rule3, breakerOf, verdict, wellFormed}
+use Rattle.tree.specs.Verdict.{Verdict, rule3, breakerOf, verdict, marksAfter}
 
 -- a mark after one naming more: 8 above the kind where one slot names the object, and rightly; 16 where more do, or one wrongly
 unfoldable pub namedMark : Bool → ℕ → ℕ
@@ -79,10 +79,7 @@ pub record Later (s m : List ℕ) (root : ℕ) : Type 0 where
   pub root-is : root ≡ volumeOf s .root
   pub rule-2 : rootStands (objects (volumeOf s)) root ≡ true
 
--- the marks after the check: those of the image, or all 0 where it is not well formed
-unfoldable pub marksAfter : List ℕ → List ℕ
-marksAfter s = cond (wellFormed s) (marksOf s) (zeroed (length s / 16))
-
+-- the verdict, and the marks then
 pub record Judges (s m : List ℕ) (v : Verdict) (m′ : List ℕ) : Type 0 where
   pub verdict-is : v ≡ verdict s
   pub marks-are : m′ ≡ splice m 0 (marksAfter s)
