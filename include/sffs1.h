@@ -92,7 +92,8 @@ uint8_t sffs1_read_point(const uint8_t *image, size_t image_len, const uint8_t *
 uint8_t sffs1_format(uint8_t *image, size_t image_len, uint64_t slots);
 
 /* A new directory with so many empty slots (1 to 1,024), in the lowest empty slot of the directory above it. Tells
-   its ref. */
+   its ref. Its name and its own block each go into the smallest free block that is big enough, of equal ones the
+   lowest: the larger of the two first, the name where they are equal. */
 uint8_t sffs1_make_directory(uint8_t *image, size_t image_len, const uint8_t *path, size_t path_len,
                              uint64_t slots, uint64_t *ref, uint64_t *place);
 

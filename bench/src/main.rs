@@ -2,14 +2,16 @@
 //!
 //!     rt staticlib sffs1 && cargo run --release --manifest-path bench/Cargo.toml
 //!
-//! First the stores are compared on damaged cards and in histories of calls (alone: argument `agree`, and a
-//! count of damaged cards). Then come lines `ratio CALL CARD NUMBER`, our time / the plain program's, for
+//! First the stores are compared on damaged cards, in histories of calls and on cards of gaps (alone: with the
+//! argument `agree`, and a count of damaged cards). Then come lines `ratio CALL CARD NUMBER`, our time / the
+//! plain program's, for
 //!
 //! - a: 1 MiB full of files of room 0, in directories of 1,024 slots;
 //! - b: 1 MiB with about a thousand files of at most some KB;
 //! - c: a typical card of 64 KiB, about a hundred files of some hundred bytes;
 //! - d: 256 bytes, the root and a file;
 //! - e: 1 MiB with 60 directories of 1,024 slots, one file in each (the checks and list only);
+//! - f: 1 MiB of small files, each second one's room free: some thousand gaps;
 //!
 //! lines `ratio check/lean CARD NUMBER`, our time / that of a tuned check, for which there is no target;
 //! lines `growth CALL NUMBER`, the time for a unit on a full card of 1 MiB / that on one of 64 KiB; and the

@@ -121,5 +121,5 @@ pub fn report() {
     scenes.iter().for_each(|scene| marked_ratio(scene, &mut marked));
     growth(&growing(), &mut grown);
     [ratio, list, grown, marked].iter().for_each(Target::show);
-    println!("no target for card e, nor for check/lean");
+    println!("no target for cards e and f, nor for check/lean");
 }

@@ -162,9 +162,38 @@ fn sparse() -> Scene {
     }
 }
 
-/// Cards a to e.
+/// 1 MiB of files of room 8 to 72, each second one's room free: some thousand gaps, of which only the last is
+/// large enough for the file that is made.
+fn holed() -> Scene {
+    let (mut builder, mut root) = Builder::new(1 << 20, 16);
+    for directory in 0..6 {
+        let mut here = builder.directory(&mut root, &format!("dir{directory:02}"), 1024);
+        for file in 0..980 {
+            let part = file * 389 % 1000;
+            builder.gap(3 + part / 7 % 5);
+            builder.file(&mut here, &format!("file{file:04}"), 8 + 16 * (part % 5), part % 9);
+        }
+        if directory == 5 {
+            // 9 units are left, for the file to be made
+            builder.file(&mut here, "sole", 16 * (builder.left() - 1 - 9) - 24, 240);
+        }
+    }
+    Scene {
+        name: "f",
+        calls: &CALLS,
+        objects: builder.objects(),
+        image: builder.finish(),
+        file: "/dir05/sole".to_string(),
+        size: 240,
+        cut: 100,
+        new: "/dir05/heel".to_string(),
+        room: 104,
+    }
+}
+
+/// Cards a to f.
 pub fn cards() -> Vec<Scene> {
-    vec![full("a", 1 << 20), thousand(), typical(), small(), sparse()]
+    vec![full("a", 1 << 20), thousand(), typical(), small(), sparse(), holed()]
 }
 
 /// Full cards of 64 KiB, 256 KiB and 1 MiB.

@@ -1,5 +1,5 @@
 //! Whether the stores agree, and the lean check with them: every number, place, byte and mark, on damaged
-//! cards and in histories of calls. The seed is fixed.
+//! cards, in histories of calls and on cards of gaps. The seed is fixed.
 
 mod act;
 mod damage;
@@ -18,6 +18,9 @@ use random::Random;
 pub const CARDS: usize = 20_000;
 /// Calls in a history; after each of them a damaged copy of the card is looked at too.
 const CALLS_EACH: usize = 60;
+/// So many cards of gaps, and gaps on each.
+const GAPPED: usize = 50;
+const GAPS: usize = 40;
 
 /// How often each number was answered.
 struct Tally {
@@ -94,7 +97,26 @@ fn deep(tally: &mut Tally) {
     }
 }
 
-/// Compares the stores on so many damaged cards and in the histories that they come from.
+/// Makes of all sizes on a card of many gaps, equal ones among them, until there is no room.
+fn gapped(random: &mut Random, tally: &mut Tally) {
+    let (mut builder, mut root) = Builder::new(16_384, 300);
+    for index in 0..GAPS {
+        builder.gap(1 + random.below(12));
+        builder.file(&mut root, &format!("post{index}"), 0, 0);
+    }
+    let mut image = builder.finish();
+    let mut made = 0;
+    loop {
+        let letters = 3 + random.below(62);
+        let (path, room) = (format!("/{made:0letters$}").into_bytes(), random.below(160) as u64);
+        if !all(&Act::MakeFile { path, room }, &mut image, tally) {
+            return;
+        }
+        made += 1;
+    }
+}
+
+/// Compares the stores on so many damaged cards, in the histories that they come from, and on cards of gaps.
 pub fn agree(cards: usize) {
     let mut random = Random::new(1);
     let mut tally = Tally { calls: 0, numbers: [0; 32] };
@@ -104,7 +126,9 @@ pub fn agree(cards: usize) {
         history(&mut random, &mut damaged, &mut tally);
         histories += 1;
     }
-    println!("agree {damaged} damaged cards, {histories} histories, {} calls, no difference", tally.calls);
+    (0..GAPPED).for_each(|_| gapped(&mut random, &mut tally));
+    print!("agree {damaged} damaged cards, {histories} histories, {GAPPED} cards of gaps,");
+    println!(" {} calls, no difference", tally.calls);
     let answered = tally.numbers.iter().enumerate().filter(|(_, times)| **times > 0);
     let shown: Vec<String> = answered.map(|(number, times)| format!("{number}: {times}")).collect();
     println!("agree answers {}", shown.join(", "));

@@ -1,4 +1,4 @@
-//! Room: the free chain, first fit and merging.
+//! Room: the free chain, the tightest gap and merging.
 
 use super::layout::*;
 
@@ -27,6 +27,7 @@ fn put_free(units: &mut [Unit], at: usize, count: usize, next: usize) {
 }
 
 /// Whether two blocks can be placed, one after the other; the first has no fewer units.
+/// Exact whichever gap the first takes: where it has a choice, the gap not taken holds the second.
 fn fits(units: &[Unit], larger: usize, smaller: usize) -> bool {
     let (mut first, mut second) = (false, false);
     let mut free = linked(units, 0);
@@ -42,27 +43,34 @@ fn fits(units: &[Unit], larger: usize, smaller: usize) -> bool {
     first && second
 }
 
-/// The front of the first free block that has so many units, zeroed.
-fn place(units: &mut [Unit], wanted: usize) -> Option<usize> {
-    let mut link = 0;
-    loop {
-        let free = linked(units, link);
-        if free == 0 {
-            return None;
-        }
+/// The link to the smallest free block that has so many units, the first among equals; and its units.
+fn tightest(units: &[Unit], wanted: usize) -> Option<(usize, usize)> {
+    let (mut best, mut least) = (None, usize::MAX);
+    let (mut link, mut free) = (0, linked(units, 0));
+    // an exact fit is not bettered
+    while free != 0 && least > wanted {
         let count = count(units, free);
-        if count >= wanted {
-            let mut next = linked(units, free);
-            if count > wanted {
-                put_free(units, free + wanted, count - wanted, next);
-                next = free + wanted;
-            }
-            put_link(units, link, next);
-            units[free..free + wanted].fill(EMPTY);
-            return Some(free);
+        if count >= wanted && count < least {
+            (best, least) = (Some(link), count);
         }
         link = free;
+        free = linked(units, free);
     }
+    best.map(|link| (link, least))
+}
+
+/// The front of the tightest free block, zeroed.
+fn place(units: &mut [Unit], wanted: usize) -> Option<usize> {
+    let (link, count) = tightest(units, wanted)?;
+    let free = linked(units, link);
+    let mut next = linked(units, free);
+    if count > wanted {
+        put_free(units, free + wanted, count - wanted, next);
+        next = free + wanted;
+    }
+    put_link(units, link, next);
+    units[free..free + wanted].fill(EMPTY);
+    Some(free)
 }
 
 /// Room for a name and an object of so many units: the larger is placed first, the name where they are equal.

@@ -1,4 +1,4 @@
-// A short walk through the allocation layer: an image built by hand, its blocks, placements and releases.
+// A short walk through the allocation layer: images built by hand, their blocks, placements and releases.
 
 use alloc::objects::Kind;
 use alloc::pair::Pair;
@@ -155,6 +155,70 @@ fn built() -> [u8; 240] {
     image
 }
 
+// Free blocks of 5, 3, 4 and 3 units, and a name of one unit between each two.
+fn gap_words() -> [u64; 39] {
+    [
+        SUPERBLOCK + 16, // 0: root 2, first free 4
+        2,
+        4,
+        0,
+        DIRECTORY + 24, // 2: a directory of one slot
+        2,
+        0,
+        0,
+        FREE + 72, // 4: 5 units; the next is at 10
+        10,
+        0,
+        0,
+        0,
+        0,
+        0,
+        0,
+        0,
+        0,
+        NAME + 4, // 9: "heel"
+        0x6865656c_00000000,
+        FREE + 40, // 10: 3 units; the next is at 14
+        14,
+        0,
+        0,
+        0,
+        0,
+        NAME + 4, // 13
+        0x6865656c_00000000,
+        FREE + 56, // 14: 4 units; the next is at 19
+        19,
+        0,
+        0,
+        0,
+        0,
+        0,
+        0,
+        NAME + 4, // 18
+        0x6865656c_00000000,
+        FREE + 40, // 19: 3 units
+    ]
+}
+
+fn with_gaps() -> [u8; 352] {
+    let mut image = [0u8; 352];
+    spread(&gap_words(), &mut image);
+    image
+}
+
+// Of the free blocks that are big enough the smallest is taken, and the lowest of equals.
+fn walk_gaps() {
+    let mut image = with_gaps();
+    say(b"gaps of 5, 3, 4 and 3 units\n");
+    show(&image);
+    place(&mut image, alloc::block::SFRE, 56);
+    place(&mut image, alloc::block::SFRE, 16);
+    place(&mut image, alloc::block::SFRE, 16);
+    place_pair(&mut image, 4, alloc::block::SFRE, 56);
+    place_pair(&mut image, 4, alloc::block::SFRE, 16);
+    show(&image);
+}
+
 fn main() {
     let mut image = built();
     say(b"built by hand\n");
@@ -171,4 +235,5 @@ fn main() {
     show(&image);
     image[31] = 1;
     show(&image);
+    walk_gaps();
 }

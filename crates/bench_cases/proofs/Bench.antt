@@ -5,7 +5,8 @@ use Rattle.storage.specs.Bytes.{be32, be64, u32At, u64At, splice, zeros, same}
 use Rattle.alloc.specs.Block.{bytes, render, front, after, parse, blocksOf, magicAt, sizeAt}
 use Rattle.alloc.specs.Tiling.{lengthAllowed, otherKind, kindAllowed, blockStands, firstBad, tilingBreaker}
 use Rattle.alloc.specs.Volume.{firstFree, toBlocks, superblock, image, fromBlocks, volumeOf, objectsFrom, objects, blockAt, linked, chained}
-use Rattle.alloc.specs.Room.{gaps, tightest, carved, placeBy, place, placeTwo, placePair, wiped, coalesced, released, updated}
+use Rattle.alloc.specs.Room.{carved, place, placeTwo, placePair, wiped, coalesced, released, updated}
+use Rattle.alloc.specs.Gaps.{gaps, tightest}
 use Rattle.path.specs.Name as name
 use Rattle.path.specs.Name.{followers, encoded, validName}
 use Rattle.path.specs.Path.{parts, components, allValid, validPath, allButLast}
@@ -24,7 +25,7 @@ unfolding be32 be64 u32At u64At splice zeros same
     bytes render front after parse blocksOf magicAt sizeAt
     lengthAllowed otherKind kindAllowed blockStands firstBad tilingBreaker
     firstFree toBlocks superblock image fromBlocks volumeOf objectsFrom objects blockAt linked chained
-    gaps tightest carved placeBy place placeTwo placePair wiped coalesced released updated
+    gaps tightest carved place placeTwo placePair wiped coalesced released updated
     name.allowed followers encoded validName parts components allValid validPath allButLast
     slotsFrom slots takenCount content rootStands slotsStand namings allNamings namedOnce climb depthAllowed nameIn distinct namesStand fileStands
     breaker verdictOn verdict wellFormed check

@@ -14,11 +14,13 @@ use Rattle.storage.proofs.Numbers.{length-be64}
 use Rattle.storage.proofs.Splice.{splice-at}
 use Rattle.alloc.specs.Answers.{Places}
 use Rattle.alloc.specs.Block.{Block, SFde, sizeAt, units}
+use Rattle.alloc.specs.Gaps.{tightest}
 use Rattle.alloc.specs.Room.{Placed, afterUpdate, blank, emptyVolume, oneFree, place, updated}
 use Rattle.alloc.specs.Sound.{Holds, Object, Sound, SoundVolume}
 use Rattle.alloc.specs.Tiling.{lengthAllowed, otherKind, within}
 use Rattle.alloc.specs.Volume.{Extent, Volume, allocated, image, volumeOf}
 use Rattle.alloc.proofs.Changes.{Renewed}
+use Rattle.alloc.proofs.Choosing.{chooses-tightest}
 use Rattle.alloc.proofs.Creating.{empty-placed, empty-sound}
 use Rattle.alloc.proofs.Cuts.{length-parts}
 use Rattle.alloc.proofs.Data.{spliced}
@@ -70,16 +72,16 @@ module _ {n k : ℕ} (a : lengthAllowed n ≡ true) (low : 0 < k) (high : k < 10
   first = subst (λ (v : Volume). Renewed s (v .extents) s) volume-so (stage-start new-sound)
 
   -- the root finds room
-  pub root-fits : {o : Option ℕ} {t : List ℕ} → Places s SFde (8 + 16 * k) o t → o ≡ none → ⊥
+  pub root-fits : {o : Option ℕ} {t : List ℕ} → Places tightest s SFde (8 + 16 * k) o t → o ≡ none → ⊥
   root-fits {o} {t} p q =
-      let x = stage-unplaced first (subst (λ (i : Option ℕ). Places s SFde (8 + 16 * k) i t) q p) .0 in
-      let y = empty-placed (blank SFde (8 + 16 * k)) n 2 (omega (arith, length-zeroed (8 + 16 * k))) (length-parts n a .0) in
+      let x = stage-unplaced first (subst (λ (i : Option ℕ). Places tightest s SFde (8 + 16 * k) i t) q p) .0 in
+      let y = empty-placed chooses-tightest (blank SFde (8 + 16 * k)) n 2 (omega (arith, length-zeroed (8 + 16 * k))) (length-parts n a .0) in
       let z : _≡_ {A = ℕ} 0 1 = cc in
       omega arith
 
-  module _ {o : Option ℕ} {t : List ℕ} (p : Places s SFde (8 + 16 * k) o t) {r : ℕ} (q : o ≡ some r) where
-    root-in : PlacedIn s (emptyVolume n 2 .extents) (blank SFde (8 + 16 * k)) r t
-    root-in = stage-placed first (directory-object k low high) (subst (λ (i : Option ℕ). Places s SFde (8 + 16 * k) i t) q p)
+  module _ {o : Option ℕ} {t : List ℕ} (p : Places tightest s SFde (8 + 16 * k) o t) {r : ℕ} (q : o ≡ some r) where
+    root-in : PlacedIn tightest s (emptyVolume n 2 .extents) (blank SFde (8 + 16 * k)) r t
+    root-in = stage-placed first chooses-tightest (directory-object k low high) (subst (λ (i : Option ℕ). Places tightest s SFde (8 + 16 * k) i t) q p)
 
     root-open : Open s r (8 + 16 * k) (root-in .placed .extents) t
     root-open = open-placed root-in (omega arith) (length-zeroed (8 + 16 * k))
@@ -93,10 +95,10 @@ module _ {n k : ℕ} (a : lengthAllowed n ≡ true) (low : 0 < k) (high : k < 10
         (record { at = 2; extents = allocated (newDirectory r k) ∷ oneFree (n / 16 - 2 - units (newDirectory r k)) })
     filled =
         let x =
-        place-spliced (blank SFde (8 + 16 * k)) (emptyVolume n 2 .extents) (root-in .placed) 0 (be64 r) (root-in .places)
+        place-spliced chooses-tightest (blank SFde (8 + 16 * k)) (emptyVolume n 2 .extents) (root-in .placed) 0 (be64 r) (root-in .places)
         (omega (arith, length-be64 r, length-zeroed (8 + 16 * k))) in
-        let y = empty-placed (newDirectory r k) n 2 (omega (arith, directory-units r k)) (length-parts n a .0) in
-        let z = ap (λ (b : Block). place b 2 (emptyVolume n 2 .extents)) (directory-filled r k) in
+        let y = empty-placed chooses-tightest (newDirectory r k) n 2 (omega (arith, directory-units r k)) (length-parts n a .0) in
+        let z = ap (λ (b : Block). place tightest b 2 (emptyVolume n 2 .extents)) (directory-filled r k) in
         cc
 
     -- and the image is the one that format makes

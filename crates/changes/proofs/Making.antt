@@ -18,6 +18,7 @@ use Rattle.path.specs.Path.{allValid, components, validPath}
 use Rattle.path.proofs.Paths.{name-length, valid-components}
 use Rattle.alloc.specs.Answers.{PlacesPair}
 use Rattle.alloc.specs.Block.{Block, SFde, SFna, SFre, sizeAt}
+use Rattle.alloc.specs.Gaps.{tightest}
 use Rattle.alloc.specs.Room.{PlacedPair, afterUpdate, blank, placePair, updated}
 use Rattle.alloc.specs.Sound.{Holds, Object, Sound}
 use Rattle.alloc.specs.Tiling.{otherKind}
@@ -25,6 +26,7 @@ use Rattle.alloc.specs.Volume.{Extent, blockAt, image, objects, objectsFrom, vo
 use Rattle.alloc.proofs.Changes.{renewed}
 use Rattle.alloc.proofs.Creating.{drop-zeroed}
 use Rattle.alloc.proofs.Data.{spliced}
+use Rattle.alloc.proofs.Choosing.{chooses-tightest}
 use Rattle.alloc.proofs.Filling.{pair-filled, pair-other, pair-there, pair-unfilled}
 use Rattle.alloc.proofs.Releasing.{length-zeroed}
 use Rattle.alloc.proofs.Stages.{PairIn, stage-pair, stage-start, stage-unpaired}
@@ -109,7 +111,7 @@ module _ {s : List ℕ} (h : AllBytes s) {d i : ℕ} {w : List ℕ} {new : New} 
   pub vacant-sound : Sound s
   vacant-sound = formed-sound s h (v .directory .formed)
 
-  fill-so : (o : Option PlacedPair) → placePair (newName w) (newBlock new d) es ≡ o
+  fill-so : (o : Option PlacedPair) → placePair tightest (newName w) (newBlock new d) es ≡ o
       → fillSlot s new w d i ≡ elim o [
         | none ↦ unmade (For NoRoom) s
         | some x ↦ record { refusal = Accepted; at = x .object; image = image (withRoot s (setSlot d i (x .name) (x .object) (x .extents))) }
@@ -118,24 +120,24 @@ module _ {s : List ℕ} (h : AllBytes s) {d i : ℕ} {w : List ℕ} {new : New} 
   fill-so o e = rw (e, fillSlot)
 
   -- no room
-  pub fill-none : {t : List ℕ} → PlacesPair s (length w) (magicFor new) (sizeFor new) none t → Makes (fillSlot s new w d i) (For NoRoom) 0 t
+  pub fill-none : {t : List ℕ} → PlacesPair tightest s (length w) (magicFor new) (sizeFor new) none t → Makes (fillSlot s new w d i) (For NoRoom) 0 t
   fill-none {t} p =
       let q = stage-unpaired (stage-start vacant-sound) p in
-      let e : placePair (newName w) (newBlock new d) es ≡ none =
-      ap (λ (b : Block). placePair b (newBlock new d) es) (sym (filled-name w))
-      ∙ ap (λ (b : Block). placePair (spliced name 0 w) b es) (sym (filled-object new d))
-      ∙ pair-unfilled name object es 0 w 0 (parentField new d) (q .0) name-fits object-fits (omega arith) (magic-there new) in
+      let e : placePair tightest (newName w) (newBlock new d) es ≡ none =
+      ap (λ (b : Block). placePair tightest b (newBlock new d) es) (sym (filled-name w))
+      ∙ ap (λ (b : Block). placePair tightest (spliced name 0 w) b es) (sym (filled-object new d))
+      ∙ pair-unfilled chooses-tightest name object es 0 w 0 (parentField new d) name-fits object-fits (omega arith) (magic-there new) (q .0) in
       subst (λ (m : Made). Makes m (For NoRoom) 0 t) (sym (fill-so none e)) (record { refusal-is = refl; at-is = refl; image-is = q .1 })
 
-  module _ {n o : ℕ} {t : List ℕ} (p : PlacesPair s (length w) (magicFor new) (sizeFor new) (some (n, o)) t) where
-    pair : PairIn s es name object n o t
-    pair = stage-pair (stage-start vacant-sound) (name-object (v .name)) (new-object new (v .bounds)) p
+  module _ {n o : ℕ} {t : List ℕ} (p : PlacesPair tightest s (length w) (magicFor new) (sizeFor new) (some (n, o)) t) where
+    pair : PairIn tightest s es name object n o t
+    pair = stage-pair (stage-start vacant-sound) chooses-tightest (name-object (v .name)) (new-object new (v .bounds)) p
 
     abbrev x : PlacedPair
     x = pair .placed
 
     there : (blockAt (objectsFrom 2 (x .extents)) (x .name) ≡ name) × (blockAt (objectsFrom 2 (x .extents)) (x .object) ≡ object)
-    there = pair-there name object es x (pair .places) (omega arith) (magic-there new)
+    there = pair-there (pair .fits) (omega arith) (magic-there new)
 
     -- the three objects that are written to
     open-at : (r : ℕ) {b : Block} → blockAt (objectsFrom 2 (x .extents)) r ≡ b → 0 < b .magic → {m : ℕ} → length (b .body) ≡ m → Open s r m (x .extents) t
@@ -152,7 +154,7 @@ module _ {s : List ℕ} (h : AllBytes s) {d i : ℕ} {w : List ℕ} {new : New} 
     unfolding objects
     directory-open =
         let q = dir-there (blockIn s d) (v .directory .kind) in
-        open-at d (pair-other name object es x (pair .places) (omega arith) (magic-there new) d q) q (formed-dir s h (v .directory .formed) d (v .directory .kind) .0)
+        open-at d (pair-other (pair .fits) (omega arith) (magic-there new) d q) q (formed-dir s h (v .directory .formed) d (v .directory .kind) .0)
 
     -- the name's bytes
     pub fill-name : Holds t n × (0 + length w ≤ sizeAt t n)
@@ -179,11 +181,11 @@ module _ {s : List ℕ} (h : AllBytes s) {d i : ℕ} {w : List ℕ} {new : New} 
         fill-done {t3} e3 =
             let f : ℕ → ℕ → List ℕ = λ a b. image (withRoot s (setSlot d i a b (updated b 0 (parentField new d) 2 (updated a 0 w 2 (x .extents))))) in
             let g : t3 ≡ f n o = open-image (store filled-open (8 + 16 * i) (be64 n ++ be64 o) (omega (arith, slot-length n o, v .slot)) e3) in
-            let e : placePair (newName w) (newBlock new d) es
+            let e : placePair tightest (newName w) (newBlock new d) es
             ≡ some (record { name = x .name; object = x .object; extents = updated (x .object) 0 (parentField new d) 2 (updated (x .name) 0 w 2 (x .extents)) }) =
-            ap (λ (b : Block). placePair b (newBlock new d) es) (sym (filled-name w))
-            ∙ ap (λ (b : Block). placePair (spliced name 0 w) b es) (sym (filled-object new d))
-            ∙ pair-filled name object es x 0 w 0 (parentField new d) (pair .places) name-fits object-fits (omega arith) (magic-there new) in
+            ap (λ (b : Block). placePair tightest b (newBlock new d) es) (sym (filled-name w))
+            ∙ ap (λ (b : Block). placePair tightest (spliced name 0 w) b es) (sym (filled-object new d))
+            ∙ pair-filled chooses-tightest name object es 0 w 0 (parentField new d) name-fits object-fits (omega arith) (magic-there new) x (pair .places) in
             subst (λ (m : Made). Makes m Accepted o t3) (sym (fill-so _ e)) (record {
               refusal-is = refl;
               at-is = sym (pair .object-ref);
@@ -249,9 +251,10 @@ parent-directory new k d e = sym (ap (λ (n : New). parentField n d) e)
 pub parent-file : (new : New) (n d : ℕ) → new ≡ file n → [] ≡ parentField new d
 parent-file new n d e = sym (ap (λ (n : New). parentField n d) e)
 
-pub pair-told : {s t : List ℕ} {k m n m′ n′ : ℕ} {o o′ : Option (ℕ × ℕ)} → m ≡ m′ → n ≡ n′ → o ≡ o′ → PlacesPair s k m n o t → PlacesPair s k m′ n′ o′ t
+pub pair-told : {s t : List ℕ} {k m n m′ n′ : ℕ} {o o′ : Option (ℕ × ℕ)} → m ≡ m′ → n ≡ n′ → o ≡ o′ → PlacesPair tightest s k m n o t
+    → PlacesPair tightest s k m′ n′ o′ t
 pair-told {s} {t} {k} {m} {n} {m′} {n′} {o} {o′} e f g p =
-    subst (λ (x : ℕ). PlacesPair s k x n′ o′ t) e (subst (λ (x : ℕ). PlacesPair s k m x o′ t) f (subst (λ (x : Option (ℕ × ℕ)). PlacesPair s k m n x t) g p))
+    subst (λ (x : ℕ). PlacesPair tightest s k x n′ o′ t) e (subst (λ (x : ℕ). PlacesPair tightest s k m x o′ t) f (subst (λ (x : Option (ℕ × ℕ)). PlacesPair tightest s k m n x t) g p))
 
 pub object-told : {m n m′ n′ : ℕ} → m ≡ m′ → n ≡ n′ → Object m′ n′ → Object m n
 object-told {m} {n} {m′} {n′} e f o = subst (λ (x : ℕ). Object x n) (sym e) (subst (λ (x : ℕ). Object m′ x) (sym f) o)

@@ -9,6 +9,7 @@ use borrow.Author.Tests.{le-leb, lt-leb}
 use Rattle.storage.specs.Bytes.{be64, u64At, zeroed}
 use Rattle.storage.proofs.Numbers.{AllBytes, length-be64}
 use Rattle.alloc.specs.Block.{Block, blockOf, sizeAt}
+use Rattle.alloc.specs.Gaps.{Choice}
 use Rattle.alloc.specs.Room.{afterUpdate, updated, withExtents}
 use Rattle.alloc.specs.Sound.{Holds, Sound}
 use Rattle.alloc.specs.Volume.{Extent, blockAt, image, objects, objectsFrom, volumeOf}
@@ -17,7 +18,6 @@ use Rattle.alloc.proofs.Cuts.{length-parts}
 use Rattle.alloc.proofs.Entries.{placed-here}
 use Rattle.alloc.proofs.Filling.{updated-append, updated-kept, updated-none}
 use Rattle.alloc.proofs.Held.{holds-size, holds-stands}
-use Rattle.alloc.proofs.Placing.{fit}
 use Rattle.alloc.proofs.Releasing.{length-zeroed}
 use Rattle.alloc.proofs.Stages.{PlacedIn, stage-holds, stage-image, stage-size, stage-start, stage-updated}
 use Rattle.tree.specs.Fields.{fileSize, isFile, room}
@@ -41,11 +41,11 @@ pub record Open (s : List ℕ) (r n : ℕ) (es : List Extent) (t : List ℕ) : T
   pub size : length (blockAt (objectsFrom 2 es) r .body) ≡ n
 
 -- a block that was just placed
-pub open-placed : {s : List ℕ} {es : List Extent} {b : Block} {r : ℕ} {t : List ℕ} (p : PlacedIn s es b r t) → 0 < b .magic → {n : ℕ} → length (b .body) ≡ n
-    → Open s r n (p .placed .extents) t
-open-placed {s} {es} {b} {r} {t} p m l =
+pub open-placed : {choose : Choice} {s : List ℕ} {es : List Extent} {b : Block} {r : ℕ} {t : List ℕ} (p : PlacedIn choose s es b r t) → 0 < b .magic
+    → {n : ℕ} → length (b .body) ≡ n → Open s r n (p .placed .extents) t
+open-placed {choose} {s} {es} {b} {r} {t} p m l =
     let e : blockAt (objectsFrom 2 (p .placed .extents)) r ≡ b =
-    ap (blockAt (objectsFrom 2 (p .placed .extents))) (sym (p .ref)) ∙ placed-here b es (p .placed) (fit b 2 es (p .placed) (p .places)) in
+    ap (blockAt (objectsFrom 2 (p .placed .extents))) (sym (p .ref)) ∙ placed-here b es (p .placed) (p .fits) in
     record { renewed = p .renewed; there = subst (λ (c : Block). 0 < c .magic) (sym e) m; size = ap (λ (c : Block). length (c .body)) e ∙ l }
 
 -- an object that holds its place

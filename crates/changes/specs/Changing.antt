@@ -10,6 +10,7 @@ use Rattle.storage.specs.Bytes.{be64, zeroed}
 use Rattle.alloc.specs.Block.{Block, SFde, SFna, SFre, units}
 use Rattle.alloc.specs.Tiling.{within, lengthAllowed}
 use Rattle.alloc.specs.Volume.{Extent, allocated, Volume, image, volumeOf, objects}
+use Rattle.alloc.specs.Gaps.{tightest}
 use Rattle.alloc.specs.Room.{placePair, released, updated, oneFree}
 use Rattle.tree.specs.Fields.{isFile, slotAt, slots, takenCount, fileSize, room}
 use Rattle.calls.specs.declared.refusal.Reason.the-variants.{BadLength, NotFound, IsDirectory, Exists, NoSlot, NoRoom, NotEmpty, OutOfBounds, IsRoot, PastRoom}
@@ -93,7 +94,7 @@ unmade r s = record { refusal = r; at = 0; image = s }
 -- both blocks placed, and their refs in slot i of the directory at ref d; 8 where there is no room for both
 unfoldable pub fillSlot : List ℕ → New → List ℕ → ℕ → ℕ → Made
 fillSlot s new w d i =
-    elim (placePair (newName w) (newBlock new d) (volumeOf s .extents)) [
+    elim (placePair tightest (newName w) (newBlock new d) (volumeOf s .extents)) [
       | none ↦ unmade (For NoRoom) s
       | some x ↦
           record { refusal = Accepted; at = x .object; image = image (withRoot s (setSlot d i (x .name) (x .object) (x .extents))) }

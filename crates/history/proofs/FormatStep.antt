@@ -12,7 +12,9 @@ use Rattle.alloc.specs.Room.{emptyVolume, oneFree}
 use Rattle.alloc.specs.Sound.{SoundVolume}
 use Rattle.alloc.specs.Tiling.{lengthAllowed, within}
 use Rattle.alloc.specs.Volume.{Volume, image, objects, objectsFrom}
-use Rattle.alloc.proofs.Changes.{placed-sound}
+use Rattle.alloc.proofs.Choosing.{chooses-tightest}
+use Rattle.alloc.proofs.Placing.{fit}
+use Rattle.alloc.proofs.Changes.{fit-sound}
 use Rattle.alloc.proofs.Creating.{empty-placed, empty-sound}
 use Rattle.alloc.proofs.Cuts.{length-parts}
 use Rattle.alloc.proofs.Soundness.{image-length, image-sound, image-volume}
@@ -32,8 +34,8 @@ use Rattle.history.proofs.Sums.{Item, sum}
 formatted-sound : (n k : ℕ) → lengthAllowed n ≡ true → within 1 1024 k ≡ true → 32 + 16 * units (newDirectory 2 k) ≤ n → SoundVolume n (formatted n k)
 unfolding formatted emptyVolume
 formatted-sound n k a b l =
-    let e = empty-placed (newDirectory 2 k) n 2 l (length-parts n a .0) in
-    placed-sound (empty-sound {n = n} {root = 2} a (omega arith)) (newDirectory 2 k) _ (block-sound (directory k) 2 b) e
+    let e = empty-placed chooses-tightest (newDirectory 2 k) n 2 l (length-parts n a .0) in
+    fit-sound (empty-sound {n = n} {root = 2} a (omega arith)) (newDirectory 2 k) _ (block-sound (directory k) 2 b) (fit chooses-tightest (newDirectory 2 k) 2 _ _ e)
 
 formatted-sum : (f : Item → ℕ) (n k : ℕ) → sum f (objects (formatted n k)) ≡ f (2, newDirectory 2 k)
 unfolding formatted objects objectsFrom

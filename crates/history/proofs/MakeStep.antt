@@ -12,7 +12,10 @@ use Rattle.storage.proofs.Numbers.{length-be64}
 use Rattle.path.specs.Name.{validName}
 use Rattle.path.specs.Path.{allButLast}
 use Rattle.alloc.specs.Block.{Block}
+use Rattle.alloc.specs.Gaps.{tightest}
 use Rattle.alloc.specs.Room.{PlacedPair, placePair}
+use Rattle.alloc.proofs.Choosing.{chooses-tightest}
+use Rattle.alloc.proofs.Both.{Paired, paired}
 use Rattle.alloc.specs.Sound.{SoundExtent, SoundVolume}
 use Rattle.alloc.specs.Volume.{Volume, allocated, image, objects, volumeOf}
 use Rattle.alloc.proofs.Heads.{volume}
@@ -42,10 +45,10 @@ use Rattle.history.proofs.Walks.{empty-row, indexEmpty, named-row, tota
 -- ---- both blocks placed, and the slot set
 
 module _ {n : ℕ} {v : Volume} (k : SoundVolume n v) {d : ℕ} {bd : Block} (h : Has v d bd) (a b : Block) (x : PlacedPair)
-    (sa : SoundExtent (allocated a)) (sb : SoundExtent (allocated b)) (e : placePair a b (v .extents) ≡ some x) where
+    (sa : SoundExtent (allocated a)) (sb : SoundExtent (allocated b)) (e : Paired a b (v .extents) x) where
   -- both blocks
   placed : Move n v (volume (v .root) (x .extents)) (λ f. 0) (λ f. f (x .name, a) + f (x .object, b))
-  placed = pair-move k a b x sa sb e
+  placed = pair-move k sa sb e
 
   -- their refs fit a slot
   name-ref : (0 < x .name) × (x .name < 18446744073709551616)
@@ -81,7 +84,7 @@ module _ {n : ℕ} {s : List ℕ} {t : Tree} (g : Good n s t) (new : New) (bound
   has = counted-has g d (blockIn s d) (dir-there (blockIn s d) (seen .0 .1 .isDir)) (λ f. omega (arith, sought-weight g ws (aDir d (blockIn s d) c) e f))
 
   -- room was found
-  filled : (i : ℕ) → indexEmpty c ≡ some i → named w c ≡ false → (x : PlacedPair) → placePair (newName w) (newBlock new d) (volumeOf s .extents) ≡ some x
+  filled : (i : ℕ) → indexEmpty c ≡ some i → named w c ≡ false → (x : PlacedPair) → Paired (newName w) (newBlock new d) (volumeOf s .extents) x
       → Answered n t after Accepted (image (withRoot s (setSlot d i (x .name) (x .object) (x .extents))))
   filled i ie nw x q =
       let k = good-volume g in
@@ -107,15 +110,15 @@ module _ {n : ℕ} {s : List ℕ} {t : Tree} (g : Good n s t) (new : New) (bound
   -- or not
   fill-kept : (i : ℕ) → indexEmpty c ≡ some i → named w c ≡ false → AnsweredMade n t after (fillSlot s new w d i)
   unfolding fillSlot
-  fill-kept i ie nw = go (placePair (newName w) (newBlock new d) (volumeOf s .extents)) refl
+  fill-kept i ie nw = go (placePair tightest (newName w) (newBlock new d) (volumeOf s .extents)) refl
     where
-      go : (o : Option PlacedPair) → placePair (newName w) (newBlock new d) (volumeOf s .extents) ≡ o
+      go : (o : Option PlacedPair) → placePair tightest (newName w) (newBlock new d) (volumeOf s .extents) ≡ o
           → AnsweredMade n t after (elim o [
             | none ↦ unmade (For NoRoom) s
             | some x ↦ record { refusal = Accepted; at = x .object; image = image (withRoot s (setSlot d i (x .name) (x .object) (x .extents))) }
           ])
       go none q = kept-reason g after NoRoom
-      go (some x) q = filled i ie nw x q
+      go (some x) q = filled i ie nw x (paired chooses-tightest (newName w) (newBlock new d) (volumeOf s .extents) x q)
 
   -- refused, or the lowest empty slot
   make-in : AnsweredMade n t after (makeIn s new w d)

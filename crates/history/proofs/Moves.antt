@@ -1,18 +1,19 @@
 -- What placing, releasing and writing do to sums over the objects, and that the volume stays sound.
 use Prim.Native.Nat.{_+_, _<_, _≤_, ℕ}
 use mathlib.Core.Bool.{Bool, cond, false, true}
+use mathlib.Core.Logic.{inl, inr}
 use mathlib.Core.List.{List, [], _++_, _∷_}
-use mathlib.Core.Option.{Option, none, some}
 use mathlib.Core.Path.{_≡_, ap, refl, subst, sym}
 use native.Mathlib.Omega.{arith}
-use lib.Dec.{eqb, ltb}
+use lib.Dec.{eqb}
 use lib.ListN.{length}
 use borrow.Author.Tests.{eqb-true}
 use Rattle.alloc.specs.Block.{Block, units}
-use Rattle.alloc.specs.Room.{Placed, PlacedPair, nameFirst, objectFirst, place, placePair, placeTwo, released, updated}
+use Rattle.alloc.specs.Room.{PlacedPair, released, updated}
 use Rattle.alloc.specs.Sound.{SoundExtent, SoundVolume, endOf}
 use Rattle.alloc.specs.Volume.{Extent, Objects, Volume, allocated, blockAt, free, objects, objectsFrom}
-use Rattle.alloc.proofs.Changes.{Changed, Inserted, objects-changed, objects-deleted, objects-inserted, pair-sound, released-sound, updated-sound}
+use Rattle.alloc.proofs.Both.{Both, Paired}
+use Rattle.alloc.proofs.Changes.{Changed, Inserted, fit-inserted, objects-changed, objects-deleted, pair-sound, released-sound, updated-sound}
 use Rattle.alloc.proofs.Data.{found, sized-at, spliced}
 use Rattle.alloc.proofs.Heads.{end-ge, volume}
 use Rattle.history.proofs.Refs.{refs-once}
@@ -104,55 +105,18 @@ module _ {n : ℕ} {v : Volume} (k : SoundVolume n v) where
 -- ---- a pair placed
 
 -- one block, then another
-two-sum : (f : Item → ℕ) (b c : Block) (es : List Extent) (x : Placed × Placed) → placeTwo b c es ≡ some x
-    → sum f (objectsFrom 2 (x .1 .extents)) ≡ sum f (objectsFrom 2 es) + (f (x .0 .at, b) + f (x .1 .at, c))
-unfolding placeTwo
-two-sum f b c es x e = first (place b 2 es) refl e
-  where
-    second : (y : Placed) → place b 2 es ≡ some y → (o : Option Placed) → place c 2 (y .extents) ≡ o
-        → _≡_ {A = Option (Placed × Placed)} (elim o [ none ↦ none | some z ↦ some (y, z) ]) (some x)
-        → sum f (objectsFrom 2 (x .1 .extents)) ≡ sum f (objectsFrom 2 es) + (f (x .0 .at, b) + f (x .1 .at, c))
-    second y h none g k = let z : _≡_ {A = ℕ} 0 1 = cc in absurd (omega arith)
-    second y h (some z) g k =
-        let i : (y, z) ≡ x = cc in
-        rw (← i) (omega (arith, sum-inserted f (objects-inserted b es y h), sum-inserted f (objects-inserted c (y .extents) z g)))
+both-sum : (f : Item → ℕ) {b c : Block} {es : List Extent} {s t : ℕ} {fs : List Extent} → Both b c es s t fs
+    → sum f (objectsFrom 2 fs) ≡ sum f (objectsFrom 2 es) + (f (s, b) + f (t, c))
+both-sum f {b} {c} {es} w = omega (arith, sum-inserted f (fit-inserted b es _ (w .first)), sum-inserted f (fit-inserted c (w .mid) _ (w .second)))
 
-    first : (o : Option Placed) → place b 2 es ≡ o
-        → _≡_ {A = Option (Placed × Placed)} (elim o [ none ↦ none | some y ↦ elim (place c 2 (y .extents)) [ none ↦ none | some z ↦ some (y, z) ] ]) (some x)
-        → sum f (objectsFrom 2 (x .1 .extents)) ≡ sum f (objectsFrom 2 es) + (f (x .0 .at, b) + f (x .1 .at, c))
-    first none h k = let z : _≡_ {A = ℕ} 0 1 = cc in absurd (omega arith)
-    first (some y) h k = second y h (place c 2 (y .extents)) refl k
-
--- in the order that their sizes tell
-pair-sum : (f : Item → ℕ) (a b : Block) (es : List Extent) (x : PlacedPair) → placePair a b es ≡ some x
+-- in the one order or in the other
+pair-sum : (f : Item → ℕ) {a b : Block} {es : List Extent} {x : PlacedPair} → Paired a b es x
     → sum f (objectsFrom 2 (x .extents)) ≡ sum f (objectsFrom 2 es) + (f (x .name, a) + f (x .object, b))
-unfolding placePair
-pair-sum f a b es x e = go (ltb (units a) (units b)) e
-  where
-    by-object : (o : Option (Placed × Placed)) → placeTwo b a es ≡ o → objectFirst o ≡ some x
-        → sum f (objectsFrom 2 (x .extents)) ≡ sum f (objectsFrom 2 es) + (f (x .name, a) + f (x .object, b))
-    by-object none g h = let z : _≡_ {A = ℕ} 0 1 = cc in absurd (omega arith)
-    by-object (some y) g h =
-        let i : record { name = y .1 .at; object = y .0 .at; extents = y .1 .extents } ≡ x = cc in
-        rw (← i) (omega (arith, two-sum f b a es y g))
-
-    by-name : (o : Option (Placed × Placed)) → placeTwo a b es ≡ o → nameFirst o ≡ some x
-        → sum f (objectsFrom 2 (x .extents)) ≡ sum f (objectsFrom 2 es) + (f (x .name, a) + f (x .object, b))
-    by-name none g h = let z : _≡_ {A = ℕ} 0 1 = cc in absurd (omega arith)
-    by-name (some y) g h =
-        let i : record { name = y .0 .at; object = y .1 .at; extents = y .1 .extents } ≡ x = cc in
-        rw (← i) (two-sum f a b es y g)
-
-    go : (t : Bool) → _≡_ {A = Option PlacedPair} (elim t [ true ↦ objectFirst (placeTwo b a es) | false ↦ nameFirst (placeTwo a b es) ]) (some x)
-        → sum f (objectsFrom 2 (x .extents)) ≡ sum f (objectsFrom 2 es) + (f (x .name, a) + f (x .object, b))
-    go true h = by-object (placeTwo b a es) refl h
-    go false h = by-name (placeTwo a b es) refl h
+pair-sum f (inl w) = both-sum f w
+pair-sum f (inr w) = omega (arith, both-sum f w)
 
 -- both are gained
-pub pair-move : {n : ℕ} {v : Volume} → SoundVolume n v → (a b : Block) (x : PlacedPair) → SoundExtent (allocated a) → SoundExtent (allocated b)
-    → placePair a b (v .extents) ≡ some x → Move n v (volume (v .root) (x .extents)) (λ f. 0) (λ f. f (x .name, a) + f (x .object, b))
+pub pair-move : {n : ℕ} {v : Volume} → SoundVolume n v → {a b : Block} {x : PlacedPair} → SoundExtent (allocated a) → SoundExtent (allocated b) → Paired a b (v .extents) x
+    → Move n v (volume (v .root) (x .extents)) (λ f. 0) (λ f. f (x .name, a) + f (x .object, b))
 unfolding objects
-pair-move {n} {v} k a b x p q e = record {
-  sound = pair-sound k a b x p q e;
-  sums = λ f. omega (arith, pair-sum f a b (v .extents) x e);
-}
+pair-move k p q w = record { sound = pair-sound k p q w; sums = λ f. omega (arith, pair-sum f w) }

@@ -13,6 +13,7 @@ use lib.Dec.{eqb, leb}
 use lib.ListN.{drop, length}
 use borrow.Author.Tests.{eq-eqb, le-ltb, leb-false, leb-true, lt-ltb, ne-eqb}
 use Rattle.alloc.specs.Block.{units}
+use Rattle.alloc.specs.Gaps.{tightest}
 use Rattle.alloc.specs.Room.{PlacedPair, placePair}
 use Rattle.alloc.specs.Tiling.{lengthAllowed, within}
 use Rattle.alloc.specs.Volume.{image, objects, volumeOf}
@@ -105,7 +106,7 @@ module _ (s : List ℕ) where
 
     fill-says : (new : New) (w : List ℕ) (d i : ℕ) → Says s (changing.fillSlot s new w d i .refusal)
     unfolding changing.fillSlot
-    fill-says new w d i = go (placePair (newName w) (newBlock new d) (volumeOf s .extents))
+    fill-says new w d i = go (placePair tightest (newName w) (newBlock new d) (volumeOf s .extents))
       where
         go : (o : Option PlacedPair) → Says s (elim o as (λ _. changing.Made) [
           | none ↦ unmade (For NoRoom) s

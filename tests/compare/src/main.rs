@@ -1,8 +1,8 @@
 //! Runs random histories through the store's static library and through a model of the written rules, and
 //! compares every answer, every lent number and buffer, and every byte of the image.
 //!
-//! Before the histories come fixed cases, images that break a rule, directories of names that are alike, and
-//! cards full of blocks and of files.
+//! Before the histories come fixed cases, images that break a rule, directories of names that are alike, cards
+//! full of blocks and of files, and cards full of gaps.
 //!
 //! Arguments: the number of histories, and the seed of the first; each further history has the next seed.
 //! A third argument, 1, prints every seed and call before it is run.
@@ -20,8 +20,10 @@ mod crowded;
 mod damage;
 mod foreign;
 mod full;
+mod gaps;
 mod heaps;
 mod history;
+mod judge;
 mod library;
 mod model;
 mod names;
@@ -63,6 +65,7 @@ fn main() -> ExitCode {
 /// What is run however many histories there are; tells how many of its parts failed.
 fn run_fixed(coverage: &mut Coverage, seed: u64, tell: bool) -> u64 {
     let [mut crowds, mut heaps, mut fulls] = [(); 3].map(|_| Coverage::default());
+    let mut gaps = gaps::Tally::default();
     let mut failed = 0;
     for (title, verdict) in [
         ("worked cases", bench::run(coverage)),
@@ -70,6 +73,7 @@ fn run_fixed(coverage: &mut Coverage, seed: u64, tell: bool) -> u64 {
         ("like names", crowded::run(seed, &mut crowds, tell)),
         ("heaps of blocks", heaps::run(seed, &mut heaps, tell)),
         ("full cards", full::run(seed, &mut fulls, tell)),
+        ("gaps", gaps::run(seed, &mut gaps, tell)),
     ] {
         if let Err(what) = verdict {
             println!("{title}: {what}");
@@ -79,6 +83,7 @@ fn run_fixed(coverage: &mut Coverage, seed: u64, tell: bool) -> u64 {
     crowds.print_short("like names");
     heaps.print_short("heaps of blocks");
     fulls.print_short("full cards");
+    gaps.print_short("gaps");
     failed
 }
 

@@ -93,6 +93,9 @@ slice-aggregate-show-6 c = search needs
 show-requires-6 : tie.Need-show-requires-6
 show-requires-6 c κs = search needs
 
+walk-gaps-requires : tie.Need-walk-gaps-requires
+walk-gaps-requires c κs = search needs
+
 returns : tie.Need-returns
 returns c = search needs
 
@@ -128,4 +131,5 @@ main-spec =
     array-write-image
     slice-aggregate-show-6
     show-requires-6
+    walk-gaps-requires
     returns)
