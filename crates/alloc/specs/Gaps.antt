@@ -1,4 +1,4 @@
--- Gaps: the free blocks of a card, and which of them a block is placed in.
+-- Gaps: the free blocks of a volume, and which of them a block is placed in.
 use Prim.Native.Nat.{ℕ, _+_, _<_, _≤_}
 use mathlib.Core.List.{List, [], _∷_}
 use mathlib.Core.Path.{_≡_}
