@@ -8,7 +8,7 @@ use Rattle.alloc.specs.Volume.{firstFree, toBlocks, superblock, image, fromBloc
 use Rattle.alloc.specs.Room.{carved, place, placeTwo, placePair, wiped, coalesced, released, updated}
 use Rattle.alloc.specs.Gaps.{gaps, tightest}
 use Rattle.path.specs.Name as name
-use Rattle.path.specs.Name.{followers, encoded, validName}
+use Rattle.path.specs.Name.{followers, lowest, highest, awaited, validName}
 use Rattle.path.specs.Path.{parts, components, allValid, validPath, allButLast}
 use Rattle.tree.specs.Fields.{slotsFrom, slots, takenCount, content}
 use Rattle.tree.specs.Rules.{rootStands, slotsStand, namings, allNamings, namedOnce, climb, depthAllowed, nameIn, distinct, namesStand, fileStands}
@@ -26,7 +26,7 @@ unfolding be32 be64 u32At u64At splice zeros same
     lengthAllowed otherKind kindAllowed blockStands firstBad tilingBreaker
     firstFree toBlocks superblock image fromBlocks volumeOf objectsFrom objects blockAt linked chained
     gaps tightest carved place placeTwo placePair wiped coalesced released updated
-    name.allowed followers encoded validName parts components allValid validPath allButLast
+    name.allowed followers lowest highest awaited validName parts components allValid validPath allButLast
     slotsFrom slots takenCount content rootStands slotsStand namings allNamings namedOnce climb depthAllowed nameIn distinct namesStand fileStands
     breaker verdictOn verdict wellFormed check
     firstSlot step walk opening start startAbove lastName find read readPoint

@@ -1,21 +1,20 @@
 -- Making: new blocks, and a slot filled.
 use Prim.Native.Nat.{_*_, _+_, _-_, _<_, _≤_, suc, zero, ℕ}
 use mathlib.Core.Bool.{Bool, true}
-use mathlib.Core.List.{List, [], _++_, _∷_, append-nil}
+use mathlib.Core.List.{List, [], _++_, append-nil}
 use mathlib.Core.Option.{Option, none, some}
 use mathlib.Core.Path.{_∙_, _≡_, ap, refl, subst, sym}
 use native.Mathlib.Nat.{add-zero, zero-add}
 use native.Mathlib.Omega.{arith}
 use lib.Dec.{leb}
-use lib.ListN.{drop, getD, length, length-append}
+use lib.ListN.{drop, length, length-append}
 use borrow.Author.Tests.{le-leb, leb-true}
 use Rattle.storage.specs.Bytes.{be64, splice, zeroed}
 use Rattle.storage.proofs.Booleans.{and-true}
 use Rattle.storage.proofs.Numbers.{AllBytes, length-be64}
 use Rattle.storage.proofs.Splice.{splice-none}
-use Rattle.path.specs.Name.{validName}
-use Rattle.path.specs.Path.{allValid, components, validPath}
-use Rattle.path.proofs.Paths.{name-length, valid-components}
+use Rattle.path.specs.Path.{components, validPath}
+use Rattle.path.proofs.ValidNames.{valid-path}
 use Rattle.alloc.specs.Answers.{PlacesPair}
 use Rattle.alloc.specs.Block.{Block, SFde, SFna, SFre, sizeAt}
 use Rattle.alloc.specs.Gaps.{tightest}
@@ -227,20 +226,14 @@ module _ (s path : List ℕ) (new : New) where
 
 -- the last component is as long as a name
 pub last-named : (path w : List ℕ) → validPath path ≡ true → (length (components path) ≡ 0 → ⊥) → w ≡ lastName path → Named w
-unfolding lastName allValid
+unfolding lastName
 last-named path w v n e =
-    let l = name-length (getD (components path) (length (components path) - 1) [])
-    (valid-at (components path) (length (components path) - 1) (omega (arith, positive (length (components path)) n)) (valid-components path v .0)) in
+    let l = valid-path path .0 v .names (length (components path) - 1) (omega (arith, positive (length (components path)) n)) .size in
     subst Named (sym e) (record { least = l .0; most = l .1 })
   where
     positive : (m : ℕ) → (m ≡ 0 → ⊥) → 0 < m
     positive zero h = absurd (h refl)
     positive (suc m) h = omega arith
-
-    valid-at : (ws : List (List ℕ)) (i : ℕ) → i < length ws → allValid ws ≡ true → validName (getD ws i []) ≡ true
-    valid-at [] i l e = absurd (omega arith)
-    valid-at (w ∷ ws) zero l e = and-true (validName w) (allValid ws) e .0
-    valid-at (w ∷ ws) (suc i) l e = valid-at ws i (omega arith) (and-true (validName w) (allValid ws) e .1)
 
 -- ---- as the code tells it
 

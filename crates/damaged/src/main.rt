@@ -59,6 +59,7 @@ fn main() {
     trees::naming();
     trees::depth();
     trees::names();
+    trees::characters();
     trees::files();
     blocks::chains();
 }

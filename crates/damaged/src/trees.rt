@@ -263,6 +263,26 @@ pub fn names() {
     );
 }
 
+// Rule 6: the first and the last characters of each length, and what lies beside them.
+pub fn characters() {
+    show_name(b"a slash in two bytes, C0 AF", 2, 0xc0af0000_00000000);
+    show_name(b"7F in two bytes, C1 BF", 2, 0xc1bf0000_00000000);
+    show_name(b"the first of two, C2 80", 2, 0xc2800000_00000000);
+    show_name(b"the last of two, DF BF", 2, 0xdfbf0000_00000000);
+    show_name(b"7FF in three bytes, E0 9F BF", 3, 0xe09fbf00_00000000);
+    show_name(b"the first of three, E0 A0 80", 3, 0xe0a08000_00000000);
+    show_name(b"before the surrogates, ED 9F BF", 3, 0xed9fbf00_00000000);
+    show_name(b"the first surrogate, ED A0 80", 3, 0xeda08000_00000000);
+    show_name(b"the last surrogate, ED BF BF", 3, 0xedbfbf00_00000000);
+    show_name(b"behind the surrogates, EE 80 80", 3, 0xee808000_00000000);
+    show_name(b"the last of three, EF BF BF", 3, 0xefbfbf00_00000000);
+    show_name(b"FFFF in four bytes, F0 8F BF BF", 4, 0xf08fbfbf_00000000);
+    show_name(b"the first of four, F0 90 80 80", 4, 0xf0908080_00000000);
+    show_name(b"10FFFF, F4 8F BF BF", 4, 0xf48fbfbf_00000000);
+    show_name(b"110000, F4 90 80 80", 4, 0xf4908080_00000000);
+    show_name(b"a lead byte above, F5 80 80 80", 4, 0xf5808080_00000000);
+}
+
 // The size field of /heel.
 fn filled(mut w: [u64; 32], size: u64) -> [u64; 32] {
     w[11] = size;

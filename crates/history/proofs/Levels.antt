@@ -11,6 +11,7 @@ use borrow.Author.Tests.{eqb-false, eqb-true, not-true}
 use Rattle.history.proofs.Tested.{name-no-dir}
 use Rattle.storage.specs.Bytes.{same}
 use Rattle.storage.proofs.Booleans.{and-true}
+use Rattle.path.proofs.ValidNames.{valid-name}
 use Rattle.alloc.specs.Volume.{Objects, blockAt}
 use Rattle.tree.specs.Fields.{Slot, isDir, isFile, isName, parent, slotAt, slots, taken, total}
 use Rattle.tree.specs.Rules.{distinct, nameIn}
@@ -208,7 +209,7 @@ module _ (os : Objects) (root : ℕ) (rises : Rises 2 os) (top : RootStands os r
   name-node s t = record {
     some = t .name-ref;
     isName = t .is-name;
-    valid = every-at (Keeps rule6 os root) os (rules rule6) (s .0) (formed.name-there (blockAt os (s .0)) (t .is-name)) .valid (t .is-name);
+    valid = valid-name _ .1 (every-at (Keeps rule6 os root) os (rules rule6) (s .0) (formed.name-there (blockAt os (s .0)) (t .is-name)) .valid (t .is-name));
   }
 
   file-node : (s : Slot) → Filled os s → isDir (blockAt os (s .1)) ≡ false → FileNode (s .1) (blockAt os (s .1))

@@ -1,5 +1,12 @@
+pub mod Booleans
 pub mod Walk
+pub mod FirstBytes
+pub mod Spelling
 pub mod Names
+pub mod Encoding
+pub mod Utf8
+pub mod Unique
+pub mod ValidNames
 pub mod Parts
 pub mod Valid
 pub mod Paths

@@ -1,87 +1,14 @@
--- What the tests of a name say of its bytes.
-use Prim.Native.Nat.{ℕ, zero, suc, _-_, _≤_, _<_}
+-- What decides that a name is valid.
+use Prim.Native.Nat.{ℕ, _≤_, _<_}
 use mathlib.Core.List.{List, [], _∷_}
-use mathlib.Core.Path.{_≡_, refl, ap, sym, _∙_}
-use mathlib.Core.Bool.{Bool, false, true, _&&_, not}
-use mathlib.Core.Option.{Option, none, some}
+use mathlib.Core.Path.{_≡_, refl}
+use mathlib.Core.Bool.{false, _&&_, not, and-assoc}
 use native.Mathlib.Omega.{arith}
-use native.Mathlib.Numerals.{sub-one}
-use borrow.Author.Tests.{ne-eqb, lt-ltb, le-ltb, le-leb, lt-leb}
+use borrow.Author.Tests.{le-leb, lt-leb}
 use lib.Dec.{eqb}
 use lib.ListN.{length, getD}
-use Rattle.path.specs.Name.{within, forbidden, allowed, followers, encoded, dots, validName}
-
--- the first byte, and then those behind it
-pub allowed-cons : (q : Bool) (b : ℕ) → q ≡ forbidden b → (t : List ℕ) → allowed (b ∷ t) ≡ (not q && allowed t)
-unfolding allowed
-allowed-cons q b e t = ap (λ (r : Bool). not r && allowed t) (sym e)
-
--- a byte where a follower is to come
-follows : (k b : ℕ) → 0 < k → (t : List ℕ) → encoded k (b ∷ t) ≡ (within 0x80 0xbf b && encoded (k - 1) t)
-unfolding encoded
-follows zero b h t = absurd (omega arith)
-follows (suc k) b h t = rw sub-one
-
-module _ (k b : ℕ) (some-left : 0 < k) where
-  pub follows-on : 0x80 ≤ b → b ≤ 0xbf → (t : List ℕ) → encoded k (b ∷ t) ≡ encoded (k - 1) t
-  follows-on l h t = follows k b some-left t ∙ rw (le-leb 0x80 b l, le-leb b 0xbf h)
-
-  pub follows-low : b < 0x80 → (t : List ℕ) → encoded k (b ∷ t) ≡ false
-  follows-low h t = follows k b some-left t ∙ rw (lt-leb 0x80 b h)
-
-  pub follows-high : 0xbf < b → (t : List ℕ) → encoded k (b ∷ t) ≡ false
-  follows-high h t = follows k b some-left t ∙ rw (le-leb 0x80 b (omega arith), lt-leb b 0xbf h)
-
--- what is asked of the bytes behind a first byte that takes these followers
-abbrev pub behind : Option ℕ → List ℕ → Bool
-behind o t = elim o [ none ↦ false | some k ↦ encoded k t ]
-
--- a byte where a character begins
-pub begins : (o : Option ℕ) (k b : ℕ) → k ≤ 0 → followers b ≡ o → (t : List ℕ) → encoded k (b ∷ t) ≡ behind o t
-unfolding encoded
-begins o k b h e t = let z : k ≡ 0 = omega arith in rw (z, e, encoded)
-
--- where no byte is left
-pub encoded-end : (k : ℕ) → eqb k 0 ≡ encoded k []
-unfolding encoded
-encoded-end zero = refl
-encoded-end (suc k) = ne-eqb (suc k) 0 (λ e. omega arith)
-
--- the table of first bytes
-module _ (b : ℕ) where
-  pub takes-0 : b < 0x80 → followers b ≡ some 0
-  unfolding followers
-  takes-0 h = rw (lt-ltb b 0x80 h)
-
-  pub takes-1 : 0xc0 ≤ b → b < 0xe0 → followers b ≡ some 1
-  unfolding followers
-  takes-1 l h = rw (le-ltb b 0x80 (omega arith), le-leb 0xc0 b l, le-leb b 0xdf (omega arith))
-
-  pub takes-2 : 0xe0 ≤ b → b < 0xf0 → followers b ≡ some 2
-  unfolding followers
-  takes-2 l h =
-      rw (le-ltb b 0x80 (omega arith), le-leb 0xc0 b (omega arith), lt-leb b 0xdf l, le-leb 0xe0 b l, le-leb b 0xef (omega arith))
-
-  pub takes-3 : 0xf0 ≤ b → b < 0xf8 → followers b ≡ some 3
-  unfolding followers
-  takes-3 l h =
-      rw (le-ltb b 0x80 (omega arith), le-leb 0xc0 b (omega arith), lt-leb b 0xdf (omega arith))
-      (rw (le-leb 0xe0 b (omega arith), lt-leb b 0xef l, le-leb 0xf0 b l, le-leb b 0xf7 (omega arith)))
-
-  pub takes-low : 0x80 ≤ b → b < 0xc0 → followers b ≡ none
-  unfolding followers
-  takes-low l h = rw (le-ltb b 0x80 l, lt-leb 0xc0 b h, lt-leb 0xe0 b (omega arith), lt-leb 0xf0 b (omega arith))
-
-  pub takes-high : 0xf8 ≤ b → followers b ≡ none
-  unfolding followers
-  takes-high l =
-      rw (le-ltb b 0x80 (omega arith), le-leb 0xc0 b (omega arith), lt-leb b 0xdf (omega arith))
-      (rw (le-leb 0xe0 b (omega arith), lt-leb b 0xef (omega arith), le-leb 0xf0 b (omega arith), lt-leb b 0xf7 l))
-
--- a byte below 80 where a character begins
-pub encoded-plain : (b : ℕ) → b ≤ 0x7f → (t : List ℕ) → encoded 0 (b ∷ t) ≡ encoded 0 t
-unfolding encoded
-encoded-plain b h t = ap (λ (o : Option ℕ). elim o as (λ _. Bool) [ none ↦ false | some k ↦ encoded k t ]) (takes-0 b (omega arith))
+use Rattle.path.specs.Name.{allowed, encoded, dots, validName}
+use Rattle.path.specs.Spelling.{spelt}
 
 -- dots by the length
 pub dots-one : (s : List ℕ) → length s ≡ 1 → eqb (getD s 0 0) 0x2e ≡ dots s
@@ -111,11 +38,6 @@ module _ (s : List ℕ) where
   unfolding validName
   name-long h = rw (le-leb 1 (length s) (omega arith), lt-leb (length s) 64 h)
 
-  -- of bytes that are allowed and spell whole characters
-  pub name-plain : 1 ≤ length s → length s ≤ 64 → (allowed s ≡ true) × (encoded 0 s ≡ true) → not (dots s) ≡ validName s
+  pub name-bytes : 1 ≤ length s → length s ≤ 64 → (spelt s && not (dots s)) ≡ validName s
   unfolding validName
-  name-plain l h p = rw (le-leb 1 (length s) l, le-leb (length s) 64 h, p .0, p .1)
-
-  pub name-bytes : 1 ≤ length s → length s ≤ 64 → (allowed s && (encoded 0 s && not (dots s))) ≡ validName s
-  unfolding validName
-  name-bytes l h = rw (le-leb 1 (length s) l, le-leb (length s) 64 h)
+  name-bytes l h = rw (le-leb 1 (length s) l, le-leb (length s) 64 h) (and-assoc (allowed s) (encoded s) (not (dots s)))

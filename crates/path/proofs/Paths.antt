@@ -11,17 +11,9 @@ use lib.ListN.{length, getD, take, drop, length-append}
 use lib.Seq.{take-at}
 use Rattle.path.specs.Name.{within, forbidden, allowed, validName}
 use Rattle.path.specs.Path.{parts, components, allValid, validPath, joined, pathFor, allButLast, lastSlash, directoryOf}
+use Rattle.path.proofs.Booleans.{and-left, and-right}
 use Rattle.path.proofs.Parts.{first, parts-slash, parts-other, parts-cons, components-parts, last-other}
 use Rattle.path.proofs.Valid.{path-names, all-cons}
-
--- both tests hold
-and-left : (p q : Bool) → (p && q) ≡ true → p ≡ true
-and-left true q e = refl
-and-left false q e = e
-
-and-right : (p q : Bool) → (p && q) ≡ true → q ≡ true
-and-right true q e = e
-and-right false q e = absurd (false≢true e)
 
 -- the length of a valid name
 pub name-length : (w : List ℕ) → validName w ≡ true → (1 ≤ length w) × (length w ≤ 64)
@@ -118,6 +110,12 @@ valid-components [] e = absurd (false≢true e)
 valid-components (b ∷ s) e =
     let h : (leb (length (components (b ∷ s))) 16 && allValid (components (b ∷ s))) ≡ true = and-right (eqb b 0x2f) _ e in
     (and-right (leb (length (components (b ∷ s))) 16) _ h, leb-true _ _ (and-left _ _ h))
+
+-- and begins with a slash
+pub valid-front : (p : List ℕ) → validPath p ≡ true → getD p 0 0 ≡ 0x2f
+unfolding validPath
+valid-front [] e = absurd (false≢true e)
+valid-front (b ∷ s) e = eqb-true b 0x2f (and-left _ _ e)
 
 -- the names before the last
 but-last-valid : (ws : List (List ℕ)) → allValid ws ≡ true → allValid (allButLast ws) ≡ true

@@ -1,99 +1,14 @@
+// Names and paths, on byte slices.
+
+mod characters;
+
 ghost use mathlib.Core.Path.{_≡_};
-ghost use mathlib.Core.List.{List, [], _∷_};
-ghost use mathlib.Core.Bool.{_&&_, true};
-ghost use Prim.Native.Nat.{ℕ, _≤_, _<_};
-ghost use lib.Dec.{leb};
+ghost use mathlib.Core.List.{[]};
+ghost use Prim.Native.Nat.{_≤_};
 ghost use lib.ListN.{length, getD};
-ghost use Rattle.path.specs.Name.{forbidden, allowed, encoded, dots, validName};
+ghost use Rattle.path.specs.Name.{dots, validName};
 ghost use Rattle.path.specs.Path.{components, validPath, directoryOf};
 ghost use Rattle.path.specs.Bounds.{Begins, Ends, Bounded, LastSlash};
-
-// Whether `b` is 00, 2F or 5C.
-fn forbidden_byte(b: u8) -> bool
-    ensures { λ r. ⌜ r ≡ forbidden b ⌝ }
-{
-    (b == 0x00) | ((b == 0x2f) | (b == 0x5c))
-}
-
-// Whether no byte of `name` is forbidden.
-fn allowed_bytes(name: &[u8]) -> bool
-    ensures { λ r. ⌜ r ≡ allowed (now (name .entry)) ⌝ }
-{
-    let mut i = 0;
-    while i < name.len() {
-        if forbidden_byte(name[i]) {
-            return false;
-        }
-        i += 1;
-    }
-    true
-}
-
-// How many followers are still to come after `b`, where `left` were to come; 4 where `b` cannot stand there.
-fn left_after(b: u8, left: usize) -> usize
-    requires { ⌜ left ≤ 3 ⌝ }
-    ensures { λ r. ⌜ ((t : List ℕ) → encoded left (b ∷ t) ≡ (leb r 3 && encoded r t)) ⌝ }
-{
-    if 0 < left {
-        if b < 0x80 {
-            return 4;
-        }
-        if 0xbf < b {
-            return 4;
-        }
-        return left - 1;
-    }
-    if b <= 0x7f {
-        return 0;
-    }
-    if b <= 0xbf {
-        return 4;
-    }
-    if b <= 0xdf {
-        return 1;
-    }
-    if b <= 0xef {
-        return 2;
-    }
-    if b <= 0xf7 {
-        return 3;
-    }
-    4
-}
-
-// Whether the bytes of `name` spell whole characters.
-fn whole_characters(name: &[u8]) -> bool
-    ensures { λ r. ⌜ r ≡ encoded 0 (now (name .entry)) ⌝ }
-{
-    let mut left = 0;
-    let mut i = 0;
-    while i < name.len() {
-        left = left_after(name[i], left);
-        if 3 < left {
-            return false;
-        }
-        i += 1;
-    }
-    left == 0
-}
-
-// Whether every byte of `name` is below 80 and not forbidden. Most names are so, and then they spell whole characters.
-fn plain_bytes(name: &[u8]) -> bool
-    ensures { λ t. ⌜ (t ≡ true → (allowed (now (name .entry)) ≡ true) × (encoded 0 (now (name .entry)) ≡ true)) ⌝ }
-{
-    let mut i = 0;
-    while i < name.len() {
-        let b = name[i];
-        if 0x7f < b {
-            return false;
-        }
-        if forbidden_byte(b) {
-            return false;
-        }
-        i += 1;
-    }
-    true
-}
 
 // Whether `name` is "." or "..".
 fn only_dots(name: &[u8]) -> bool
@@ -118,10 +33,7 @@ pub fn valid_name(name: &[u8]) -> bool
     if 64 < name.len() {
         return false;
     }
-    if plain_bytes(name) {
-        return !only_dots(name);
-    }
-    allowed_bytes(name) & (whole_characters(name) & !only_dots(name))
+    characters::spelt(name) & !only_dots(name)
 }
 
 // How many components `path` has.
