@@ -22,6 +22,9 @@
 extern "C" {
 #endif
 
+/* A path is "/", the root, or one to 16 times a slash and a name. A name has 1 to 64 bytes, UTF-8 exactly by RFC 3629
+   (no overlong form, no surrogate, nothing above 10FFFF), without 00, "/" and "\\"; "." and ".." are none. */
+
 /* The answers. */
 enum {
     SFFS1_DONE = 0,

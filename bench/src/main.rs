@@ -12,6 +12,8 @@
 //! - d: 256 bytes, the root and a file;
 //! - e: 1 MiB with 60 directories of 1,024 slots, one file in each (the checks and list only);
 //! - f: 1 MiB of small files, each second one's room free: some thousand gaps;
+//! - g: 1 MiB full of files of room 0 with names of 64 bytes below 80 (the checks, find and list only);
+//! - h: the same with names of 61 to 64 bytes, all of characters of two, three and four bytes;
 //!
 //! lines `ratio check/lean CARD NUMBER`, our time / that of a tuned check, for which there is no target;
 //! lines `growth CALL NUMBER`, the time for a unit on a full card of 1 MiB / that on one of 64 KiB; and the

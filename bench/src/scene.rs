@@ -191,9 +191,66 @@ fn holed() -> Scene {
     }
 }
 
-/// Cards a to f.
+/// 64 bytes below 80.
+fn plain_name(number: usize) -> String {
+    format!("{:-<60}{number:04}", "last-left-and-right")
+}
+
+/// Characters of two, three and four bytes in turn.
+const CHARACTERS: [u32; 12] =
+    [0xe9, 0x20ac, 0x1f45f, 0xdf, 0x3042, 0x10348, 0x416, 0x9774, 0x1f97e, 0x3a9, 0xa000, 0x1d11e];
+
+/// 61 to 64 bytes, of characters of two, three and four bytes; the last four tell the number.
+fn high_name(number: usize) -> String {
+    let letter = |index: usize| char::from_u32(CHARACTERS[index % 12]).unwrap();
+    let end: String = [1000, 100, 10, 1].iter().map(|ten| letter(number / ten % 10)).collect();
+    let mut name = String::new();
+    for place in 0.. {
+        let letter = letter((number + 17 * place) * 389 % 1000 / 7);
+        if name.len() + letter.len_utf8() + end.len() > 64 {
+            break;
+        }
+        name.push(letter);
+    }
+    name + &end
+}
+
+/// 1 MiB full of files of room 0, with names of 5 units, in directories of 1,024 slots, but for one file with
+/// content in the last directory, and room for one more file there.
+fn long_names(name: &'static str, spelled: fn(usize) -> String) -> Scene {
+    let (mut builder, mut root) = Builder::new(1 << 20, 16);
+    let (mut directories, mut files) = (0, 0);
+    let mut here = builder.directory(&mut root, &spelled(0), 1024);
+    // the file with content takes 23 units, the one to be made 7
+    while builder.left() >= 7 + 23 + 7 {
+        if files == 1024 {
+            directories += 1;
+            files = 0;
+            here = builder.directory(&mut root, &spelled(directories), 1024);
+        }
+        builder.file(&mut here, &spelled(files), 0, 0);
+        files += 1;
+    }
+    builder.file(&mut here, &spelled(files), 256, 240);
+    assert!(files < 1023 && builder.left() >= 7);
+    let path = |file| format!("/{}/{}", spelled(directories), spelled(file));
+    Scene {
+        name,
+        calls: &[Call::Check, Call::CheckMarked, Call::Find, Call::List],
+        objects: builder.objects(),
+        image: builder.finish(),
+        file: path(files),
+        size: 240,
+        cut: 100,
+        new: path(files + 1),
+        room: 0,
+    }
+}
+
+/// Cards a to h.
 pub fn cards() -> Vec<Scene> {
-    vec![full("a", 1 << 20), thousand(), typical(), small(), sparse(), holed()]
+    let (plain, high) = (long_names("g", plain_name), long_names("h", high_name));
+    vec![full("a", 1 << 20), thousand(), typical(), small(), sparse(), holed(), plain, high]
 }
 
 /// Full cards of 64 KiB, 256 KiB and 1 MiB.

@@ -162,6 +162,10 @@ int main(void) {
     expect_find("/b", SFFS1_NOT_FOUND, 0, 0, 0, 0);
     expect_find("/heel/a", SFFS1_NOT_A_DIRECTORY, 0, 0, 0, 0);
     expect_find("/a/", SFFS1_BAD_PATH, 0, 0, 0, 0);
+    expect_find("/\xc0\xaf", SFFS1_BAD_PATH, 0, 0, 0, 0);
+    expect_find("/\xc2\x80", SFFS1_NOT_FOUND, 0, 0, 0, 0);
+    expect_find("/a/\xed\xa0\x80", SFFS1_BAD_PATH, 0, 0, 0, 0);
+    expect_find("/a/\xed\x9f\xbf", SFFS1_NOT_FOUND, 0, 0, 0, 0);
     expect_read("/heel", 0, SFFS1_DONE, 8, 1);
     expect_read("/heel", 37, SFFS1_DONE, 3, 38);
     expect_read("/heel", 40, SFFS1_DONE, 0, 0);

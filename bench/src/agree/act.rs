@@ -1,6 +1,7 @@
 //! A call with all its arguments, and what comes of it.
 
 use super::random::Random;
+use super::spelling;
 use crate::store::{Answer, Check, Store};
 
 /// A call with its arguments.
@@ -122,9 +123,10 @@ fn name(random: &mut Random) -> Vec<u8> {
     let names: [&[u8]; 8] =
         [b"a", b"b", b"c", b"heel", b"sole", b"file0001", b"toe\xc3\xa9", &long[..length]];
     let odd: [&[u8]; 7] = [b".", b"..", b"a\\b", b"12345678\0", b"\xe1\x80", b"\x80", b"\xf4\x80\x80\x80.."];
-    if random.percent(10) {
-        random.one(&odd).to_vec()
-    } else {
-        random.one(&names).to_vec()
+    match random.below(100) {
+        0..=6 => random.one(&odd).to_vec(),
+        7..=11 => [b"toe", &spelling::bytes(random, true)[..], b"cap"].concat(),
+        12..=29 => spelling::name(random),
+        _ => random.one(&names).to_vec(),
     }
 }

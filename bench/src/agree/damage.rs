@@ -1,6 +1,7 @@
 //! Damage to a well-formed card, aimed at its blocks and fields.
 
 use super::random::Random;
+use super::spelling;
 
 /// A block of a card: its magic, its first byte and the size that its header tells.
 #[derive(Clone, Copy)]
@@ -153,15 +154,29 @@ fn spoil_directory(random: &mut Random, image: &mut [u8], blocks: &[Block]) {
     }
 }
 
-/// A byte that a name may not have, or the bytes of another name.
+/// Bytes that a name may not have, or that may spoil its characters.
+const ODD_BYTES: [u8; 21] = [
+    0, b'/', b'\\', b'.', 0x80, 0x8f, 0x90, 0x9f, 0xa0, 0xbf, 0xc0, 0xc1, 0xc3, 0xe0, 0xe1, 0xed, 0xf0, 0xf4,
+    0xf5, 0xf8, 0xff,
+];
+
+/// An odd byte, a character or bytes that are none, or the bytes of another name.
 fn spoil_name(random: &mut Random, image: &mut [u8], blocks: &[Block]) {
     let Some(name) = of(random, blocks, b"SFna") else { return };
     let Some(other) = of(random, blocks, b"SFna") else { return };
-    if random.percent(50) {
-        let at = name.at + 8 + random.below(name.size);
-        image[at] = random.one(&[0, b'/', b'\\', b'.', 0x80, 0xbf, 0xc3, 0xe1, 0xf8, 0xff]);
-    } else if name.size == other.size {
-        image.copy_within(other.at..other.at + 8 + other.size, name.at);
+    let none = random.percent(60);
+    let bytes = match random.below(3) {
+        0 => vec![random.one(&ODD_BYTES)],
+        1 => spelling::bytes(random, none),
+        _ if name.size == other.size => {
+            image.copy_within(other.at..other.at + 8 + other.size, name.at);
+            return;
+        }
+        _ => return,
+    };
+    if let Some(spare) = name.size.checked_sub(bytes.len()) {
+        let at = name.at + 8 + random.below(spare + 1);
+        image[at..at + bytes.len()].copy_from_slice(&bytes);
     }
 }
 

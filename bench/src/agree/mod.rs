@@ -4,6 +4,7 @@
 mod act;
 mod damage;
 mod random;
+mod spelling;
 
 use crate::builder::Builder;
 use crate::job::{check, Call, Job, CALLS};

@@ -10,23 +10,28 @@ pub fn valid_name(name: &[u8]) -> bool {
     (1..=LONGEST_NAME).contains(&name.len()) && name != b"." && name != b".." && valid_bytes(name)
 }
 
-/// Whether the bytes spell whole characters, none of them 00, 2F or 5C.
+/// Whether the bytes spell whole characters by RFC 3629, none of them 00, 2F or 5C.
 fn valid_bytes(name: &[u8]) -> bool {
-    let mut followers = 0;
+    // the followers to come, and what the next of them may be
+    let (mut followers, mut least, mut most) = (0, 0x80, 0xbf);
     for &byte in name {
         if followers > 0 {
-            if !matches!(byte, 0x80..=0xbf) {
+            if !(least..=most).contains(&byte) {
                 return false;
             }
-            followers -= 1;
+            (followers, least, most) = (followers - 1, 0x80, 0xbf);
             continue;
         }
-        followers = match byte {
+        (followers, least, most) = match byte {
             0x00 | b'/' | b'\\' => return false,
-            0x01..=0x7f => 0,
-            0xc0..=0xdf => 1,
-            0xe0..=0xef => 2,
-            0xf0..=0xf7 => 3,
+            0x01..=0x7f => (0, 0x80, 0xbf),
+            0xc2..=0xdf => (1, 0x80, 0xbf),
+            0xe0 => (2, 0xa0, 0xbf),
+            0xed => (2, 0x80, 0x9f),
+            0xe1..=0xef => (2, 0x80, 0xbf),
+            0xf0 => (3, 0x90, 0xbf),
+            0xf1..=0xf3 => (3, 0x80, 0xbf),
+            0xf4 => (3, 0x80, 0x8f),
             _ => return false,
         };
     }

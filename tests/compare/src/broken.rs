@@ -25,6 +25,8 @@ enum Edit {
     Slot(usize, usize, u64, u64),
     /// A block's header: kind and size.
     Header(usize, Kind, usize),
+    /// The bytes of a name, at most 8.
+    Name(usize, &'static [u8]),
     /// The last free block becomes a name, at ref 30.
     NewName,
 }
@@ -165,6 +167,10 @@ fn apply(card: &mut Vec<u8>, edit: Edit) {
             put64(card, UNIT * directory + SLOTS + 16 * index + 8, object);
         }
         Header(reference, kind, size) => put_header(card, UNIT * reference, kind, size),
+        Name(reference, bytes) => {
+            put_header(card, UNIT * reference, Kind::Name, bytes.len());
+            card[UNIT * reference + NAME_BYTES..][..bytes.len()].copy_from_slice(bytes);
+        }
         NewName => {
             put_header(card, UNIT * 30, Kind::Name, 56);
             card[UNIT * 30 + NAME_BYTES..].fill(b'n');
@@ -344,6 +350,13 @@ const NAMES: &[Case] = &[
     ("a name with a zero byte", &[Byte(13, NAME_BYTES, 0)], 26, 13),
     ("the name of one dot", &[Byte(17, NAME_BYTES, b'.')], 26, 17),
     ("a follower alone", &[Byte(29, NAME_BYTES, 0x80)], 26, 29),
+    ("a slash in two bytes", &[Name(9, &[0xc0, 0xaf])], 26, 9),
+    ("800 less one in three bytes", &[Name(13, &[0xe0, 0x9f, 0xbf])], 26, 13),
+    ("D800", &[Name(17, &[0xed, 0xa0, 0x80])], 26, 17),
+    ("10000 less one in four bytes", &[Name(21, &[0xf0, 0x8f, 0xbf, 0xbf])], 26, 21),
+    ("110000", &[Name(29, &[0xf4, 0x90, 0x80, 0x80])], 26, 29),
+    ("DFFF behind E000", &[Name(17, &[0xee, 0x80, 0x80, 0xed, 0xbf, 0xbf])], 26, 17),
+    ("two names that are no UTF-8", &[Name(21, &[0xc1, 0xbf]), Name(13, &[0xf5])], 26, 13),
     ("equal names in the root", &[Byte(13, NAME_BYTES, b'f')], 26, 2),
     ("equal names in /a", &[Byte(21, NAME_BYTES, b'b')], 26, 10),
     ("two bad names", &[Byte(29, NAME_BYTES, b'.'), Byte(17, NAME_BYTES, b'.')], 26, 17),

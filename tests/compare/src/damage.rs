@@ -290,11 +290,17 @@ fn put_name(image: &mut [u8], block: &Block, name: &[u8]) -> Option<()> {
     Some(())
 }
 
+/// Bytes that may spoil a name, or a character that is there.
+const ODD_BYTES: [u8; 20] = [
+    0x00, 0x2f, 0x5c, 0x80, 0x8f, 0x90, 0x9f, 0xa0, 0xbf, 0xc0, 0xc1, 0xdf, 0xe0, 0xed, 0xf0, 0xf4, 0xf5,
+    0xf7, 0xf8, 0xff,
+];
+
 fn spoil_name(random: &mut Random, image: &mut [u8], _: &Scene, blocks: &Blocks) -> Option<()> {
     let block = some_name(random, blocks)?;
     if random.percent(50) {
         let at = block.at + NAME_BYTES + random.below(block.size);
-        image[at] = random.one(&[0x00, 0x2f, 0x5c, 0x80, 0xbf, 0xc0, 0xdf, 0xe0, 0xf0, 0xf7, 0xf8, 0xff]);
+        image[at] = random.one(&ODD_BYTES);
         return Some(());
     }
     let name = bad_name(random);

@@ -1,8 +1,8 @@
 //! Runs random histories through the store's static library and through a model of the written rules, and
 //! compares every answer, every lent number and buffer, and every byte of the image.
 //!
-//! Before the histories come fixed cases, images that break a rule, directories of names that are alike, cards
-//! full of blocks and of files, and cards full of gaps.
+//! Before the histories come fixed cases, images that break a rule, names at the edges of UTF-8, directories
+//! of names that are alike, cards full of blocks and of files, and cards full of gaps.
 //!
 //! Arguments: the number of histories, and the seed of the first; each further history has the next seed.
 //! A third argument, 1, prints every seed and call before it is run.
@@ -31,6 +31,7 @@ mod pick;
 mod random;
 mod scatter;
 mod scene;
+mod utf8;
 
 use coverage::Coverage;
 use model::list::{show, LONGEST_SHOWN};
@@ -65,11 +66,12 @@ fn main() -> ExitCode {
 /// What is run however many histories there are; tells how many of its parts failed.
 fn run_fixed(coverage: &mut Coverage, seed: u64, tell: bool) -> u64 {
     let [mut crowds, mut heaps, mut fulls] = [(); 3].map(|_| Coverage::default());
-    let mut gaps = gaps::Tally::default();
+    let (mut names, mut gaps) = (utf8::Tally::default(), gaps::Tally::default());
     let mut failed = 0;
     for (title, verdict) in [
         ("worked cases", bench::run(coverage)),
         ("broken images", broken::run()),
+        ("UTF-8", utf8::run(&mut names, tell)),
         ("like names", crowded::run(seed, &mut crowds, tell)),
         ("heaps of blocks", heaps::run(seed, &mut heaps, tell)),
         ("full cards", full::run(seed, &mut fulls, tell)),
@@ -80,6 +82,7 @@ fn run_fixed(coverage: &mut Coverage, seed: u64, tell: bool) -> u64 {
             failed += 1;
         }
     }
+    names.print_short("UTF-8");
     crowds.print_short("like names");
     heaps.print_short("heaps of blocks");
     fulls.print_short("full cards");

@@ -1,6 +1,8 @@
 //! Random names and paths, good and bad.
 
 use crate::model::name::join;
+#[cfg(test)]
+use crate::model::name::valid_name;
 use crate::random::Random;
 use crate::scene::{Scene, Thing};
 
@@ -26,11 +28,11 @@ fn word(random: &mut Random, least: usize, most: usize) -> Vec<u8> {
     (0..length).map(|_| b'a' + random.below(3) as u8).collect()
 }
 
-/// A name of sequences with followers, filled up with letters to the length.
+/// A name of characters of two to four bytes, here and there a letter, filled up with letters to the length.
 fn high_word(random: &mut Random, length: usize) -> Vec<u8> {
     let mut name = Vec::new();
     loop {
-        let sequence = high_sequence(random);
+        let sequence = if random.percent(20) { vec![b'k'] } else { high_sequence(random) };
         if name.len() + sequence.len() > length {
             break;
         }
@@ -40,19 +42,47 @@ fn high_word(random: &mut Random, length: usize) -> Vec<u8> {
     name
 }
 
+/// Characters at the edges of what two, three and four bytes hold, and some between.
+const EDGES: [u32; 19] = [
+    0x80, 0xe9, 0x7ff, 0x800, 0xfff, 0x1000, 0x20ac, 0xd7ff, 0xe000, 0xfeff, 0xfffd, 0xffff, 0x10000,
+    0x1f45f, 0x3ffff, 0x40000, 0xfffff, 0x100000, 0x10ffff,
+];
+
+/// A character of two to four bytes, mostly at an edge.
 fn high_sequence(random: &mut Random) -> Vec<u8> {
-    let leads: [&[u8]; 3] = [&[0xc0, 0xc3, 0xdf], &[0xe0, 0xe9, 0xef], &[0xf0, 0xf5, 0xf7]];
-    let followers = random.within(1, 3);
-    let mut sequence = vec![random.one(leads[followers - 1])];
-    for _ in 0..followers {
-        sequence.push(random.one(&[0x80, 0x81, 0x9f, 0xa0, 0xbf]));
-    }
-    sequence
+    let value = if random.percent(70) { random.one(&EDGES) } else { any_value(random) };
+    let letter = char::from_u32(value).unwrap();
+    letter.to_string().into_bytes()
+}
+
+/// Any character from 80 on.
+fn any_value(random: &mut Random) -> u32 {
+    let (least, most) = random.one(&[(0x80, 0x7ff), (0x800, 0xd7ff), (0xe000, 0xffff), (0x10000, 0x10ffff)]);
+    random.within(least, most) as u32
+}
+
+/// Bytes that look like a character and are none: longer than need be, D800 to DFFF, or past 10FFFF.
+fn no_character(random: &mut Random) -> Vec<u8> {
+    let near: [&[u8]; 12] = [
+        &[0xc0, 0xaf],
+        &[0xc0, 0x80],
+        &[0xc1, 0xbf],
+        &[0xe0, 0x80, 0xaf],
+        &[0xe0, 0x9f, 0xbf],
+        &[0xed, 0xa0, 0x80],
+        &[0xed, 0xbf, 0xbf],
+        &[0xf0, 0x80, 0x80, 0xaf],
+        &[0xf0, 0x8f, 0xbf, 0xbf],
+        &[0xf4, 0x90, 0x80, 0x80],
+        &[0xf5, 0x80, 0x80, 0x80],
+        &[0xf7, 0xbf, 0xbf, 0xbf],
+    ];
+    random.one(&near).to_vec()
 }
 
 /// Bytes that are no name; a slash may stand among them.
 pub fn bad_name(random: &mut Random) -> Vec<u8> {
-    match random.below(14) {
+    match random.below(16) {
         0 => Vec::new(),
         1 => b".".to_vec(),
         2 => b"..".to_vec(),
@@ -66,25 +96,33 @@ pub fn bad_name(random: &mut Random) -> Vec<u8> {
         6 => spoiled(random, &[0x00]),
         7 => spoiled(random, &[0x5c]),
         8 => {
-            let alone = random.one(&[0x80, 0xbf, 0xf8, 0xff, 0xfe, 0xfc, 0x9a]);
+            let alone = random.one(&[0x80, 0xbf, 0xf8, 0xff, 0xfe, 0xfc, 0x9a, 0xc1, 0xc2, 0xed, 0xf5]);
             spoiled(random, &[alone])
         }
         9 => spoiled(random, &[0xc3, 0x41]),
         10 => cut_sequence(random),
         11..=12 => wrong_lead(random),
+        13..=14 => {
+            let near = no_character(random);
+            spoiled(random, &near)
+        }
         _ => wrong_follower(random),
     }
 }
 
-/// A good name with bytes put in somewhere.
+/// A good name, spoiled by bytes that are put in somewhere.
 fn spoiled(random: &mut Random, bytes: &[u8]) -> Vec<u8> {
-    let mut name = word(random, 0, 6);
+    let length = random.one(&[0, 0, 12, 60]);
+    let mut name = match length {
+        0 => word(random, 0, 6),
+        _ => high_word(random, length),
+    };
     let at = random.below(name.len() + 1);
     name.splice(at..at, bytes.iter().copied());
     name
 }
 
-/// A name that ends before its last sequence does.
+/// A name that ends before its last character does.
 fn cut_sequence(random: &mut Random) -> Vec<u8> {
     let mut name = word(random, 0, 5);
     let sequence = high_sequence(random);
@@ -96,7 +134,7 @@ fn cut_sequence(random: &mut Random) -> Vec<u8> {
 fn wrong_lead(random: &mut Random) -> Vec<u8> {
     let mut name = high_sequence(random);
     if random.percent(50) {
-        name[0] = random.one(&[0xf8, 0xfb, 0xfc, 0xfe, 0xff, 0x7f, 0x80, 0xbf]);
+        name[0] = random.one(&[0xc0, 0xc1, 0xf5, 0xf7, 0xf8, 0xfb, 0xfc, 0xfe, 0xff, 0x7f, 0x80, 0xbf]);
     } else {
         name.push(random.one(&[0x80, 0xbf]));
     }
@@ -117,16 +155,23 @@ pub fn below(directory: &Thing, name: Vec<u8>) -> Vec<u8> {
     join(&parts)
 }
 
-/// A name near one that is there: a byte more, less or other.
+/// A name near one that is there: a character more, less or other. It is a name unless dots are left.
 fn near_name(random: &mut Random, name: &[u8]) -> Vec<u8> {
-    let mut near = name.to_vec();
-    match random.below(4) {
-        0 if near.len() < 64 => near.push(b'a'),
-        1 if near.len() > 1 => near.truncate(near.len() - 1),
-        2 => *near.last_mut().unwrap() = b'q',
-        _ => near[0] = b'q',
+    let follows = |byte: &u8| (0x80..=0xbf).contains(byte);
+    let first = 1 + name[1..].iter().take_while(|byte| follows(byte)).count();
+    let last = name.iter().rposition(|byte| !follows(byte)).unwrap_or(0);
+    match random.below(5) {
+        0 if name.len() < 64 => [name, b"a"].concat(),
+        1 if last > 0 => name[..last].to_vec(),
+        2 => [&name[..last], b"q"].concat(),
+        3 if last < name.len() - 1 => {
+            // another last follower is a follower too
+            let mut near = name.to_vec();
+            *near.last_mut().unwrap() ^= 1;
+            near
+        }
+        _ => [b"q", &name[first..]].concat(),
     }
-    near
 }
 
 /// The path of something that is not there, in a directory that is.
@@ -167,7 +212,7 @@ pub fn long_path(random: &mut Random, scene: &Scene) -> Vec<u8> {
     join(&parts)
 }
 
-/// Bytes that are no path, often close to one.
+/// Bytes that are mostly no path, and often close to one.
 pub fn bad_path(random: &mut Random, scene: &Scene) -> Vec<u8> {
     let good = random.pick(&scene.things).map(Thing::path).unwrap_or(b"/a".to_vec());
     match random.below(14) {
@@ -190,7 +235,7 @@ pub fn bad_path(random: &mut Random, scene: &Scene) -> Vec<u8> {
     }
 }
 
-/// A bad component behind a path, or before it.
+/// A bad component behind a path, or before it; an empty one behind the root is none.
 fn with_bad_name(random: &mut Random, path: &[u8]) -> Vec<u8> {
     let bad = [b"/", &bad_name(random)[..]].concat();
     let path = if path == b"/" { &[] } else { path };
@@ -198,5 +243,18 @@ fn with_bad_name(random: &mut Random, path: &[u8]) -> Vec<u8> {
         [path, &bad].concat()
     } else {
         [&bad, path].concat()
+    }
+}
+
+#[test]
+fn good_names_are_good_and_bad_ones_bad() {
+    let mut random = Random::new(104);
+    for _ in 0..100_000 {
+        let name = good_name(&mut random);
+        assert!(valid_name(&name), "{name:02x?}");
+        let near = near_name(&mut random, &name);
+        assert!(valid_name(&near) || near == b"." || near == b"..", "{near:02x?} near {name:02x?}");
+        let bad = bad_name(&mut random);
+        assert!(!valid_name(&bad), "{bad:02x?}");
     }
 }

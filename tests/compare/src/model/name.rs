@@ -10,25 +10,9 @@ pub fn valid_name(name: &[u8]) -> bool {
     length && !dots && valid_bytes(name)
 }
 
-fn valid_bytes(mut rest: &[u8]) -> bool {
-    while let Some(&lead) = rest.first() {
-        let followers = match lead {
-            0x00 | 0x2f | 0x5c => return false,
-            0x01..=0x7f => 0,
-            0xc0..=0xdf => 1,
-            0xe0..=0xef => 2,
-            0xf0..=0xf7 => 3,
-            _ => return false,
-        };
-        if rest.len() < 1 + followers {
-            return false;
-        }
-        if !rest[1..1 + followers].iter().all(|byte| (0x80..=0xbf).contains(byte)) {
-            return false;
-        }
-        rest = &rest[1 + followers..];
-    }
-    true
+/// UTF-8 by RFC 3629, as Rust's library tests it, and none of the three bytes that a name may not have.
+fn valid_bytes(name: &[u8]) -> bool {
+    std::str::from_utf8(name).is_ok() && !name.iter().any(|byte| [0x00, 0x2f, 0x5c].contains(byte))
 }
 
 /// The components of a valid path, none for the root; refusal 2 otherwise.
