@@ -63,24 +63,21 @@ module _ (b : ℕ) where
   unfolding highest
   highest-other e f = rw (ne-eqb b 0xed e, ne-eqb b 0xf4 f)
 
+-- what holds of both numbers holds of the one that is chosen
+either : (P : ℕ → Type 0) (q : Bool) {x y : ℕ} → P x → P y → P (cond q x y)
+either P true a b = a
+either P false a b = b
+
 -- 80 at least
 pub lowest-high : (b : ℕ) → 0x80 ≤ lowest b
 unfolding lowest
-lowest-high b = go (eqb b 0xe0) (eqb b 0xf0) (within 0xc2 0xf4 b)
-  where
-    go : (p q r : Bool) → 0x80 ≤ cond p 0xa0 (cond q 0x90 (cond r 0x80 0xff))
-    go true q r = omega arith
-    go false true r = omega arith
-    go false false true = omega arith
-    go false false false = omega arith
+lowest-high b =
+    let P : ℕ → Type 0 = λ n. 0x80 ≤ n in
+    either P (eqb b 0xe0) (omega arith) (either P (eqb b 0xf0) (omega arith) (either P (within 0xc2 0xf4 b) (omega arith) (omega arith)))
 
 -- 3 at most
 pub followers-few : (b : ℕ) → followers b ≤ 3
 unfolding followers
-followers-few b = go (ltb b 0x80) (ltb b 0xe0) (ltb b 0xf0)
-  where
-    go : (p q r : Bool) → cond p 0 (cond q 1 (cond r 2 3)) ≤ 3
-    go true q r = omega arith
-    go false true r = omega arith
-    go false false true = omega arith
-    go false false false = omega arith
+followers-few b =
+    let P : ℕ → Type 0 = λ n. n ≤ 3 in
+    either P (ltb b 0x80) (omega arith) (either P (ltb b 0xe0) (omega arith) (either P (ltb b 0xf0) (omega arith) (omega arith)))
