@@ -33,7 +33,7 @@ pub fn check(image: &[u8]) -> Refusal
 pub fn check_marked(image: &[u8], marks: &mut [u8]) -> Refusal
     ensures { λ r. ⌜ Checks (spec.checkMarked (now (image .entry)) (now (marks .entry))) r (now (marks .exit)) ⌝ }
 {
-    if marks.len() < image.len() / 16 {
+    if (marks.len() as u64) < storage::units_of(image.len()) {
         return Refusal::For(Reason::TooFewMarks);
     }
     refusal_of(tree::verdict::judge_marked(image, marks))

@@ -57,7 +57,8 @@ directory-filled p k =
 
 -- ---- what is stored into a new image
 
-module _ {n k : ℕ} (a : lengthAllowed n ≡ true) (low : 0 < k) (high : k < 1025) (fits : 48 + 16 * k ≤ n) {s : List ℕ} (e : s ≡ image (emptyVolume n 2)) where
+module _ {n k : ℕ} (a : lengthAllowed n ≡ true) (low : 0 < k) (high : k < 1025) (fits : 48 + 16 * k ≤ n) {s : List ℕ} (e : s ≡ image (emptyVolume n 2))
+    {z : ℕ} (d : z ≡ 8 + 16 * k) where
   sound-so : SoundVolume n (emptyVolume n 2)
   sound-so = empty-sound a (omega arith)
 
@@ -71,17 +72,20 @@ module _ {n k : ℕ} (a : lengthAllowed n ≡ true) (low : 0 < k) (high : k < 10
   first : Renewed s (emptyVolume n 2 .extents) s
   first = subst (λ (v : Volume). Renewed s (v .extents) s) volume-so (stage-start new-sound)
 
+  placed-so : {o i : Option ℕ} {t : List ℕ} → Places tightest s SFde z o t → o ≡ i → Places tightest s SFde (8 + 16 * k) i t
+  placed-so {o} {i} {t} p q = subst (λ (j : Option ℕ). Places tightest s SFde (8 + 16 * k) j t) q (subst (λ (y : ℕ). Places tightest s SFde y o t) d p)
+
   -- the root finds room
-  pub root-fits : {o : Option ℕ} {t : List ℕ} → Places tightest s SFde (8 + 16 * k) o t → o ≡ none → ⊥
-  root-fits {o} {t} p q =
-      let x = stage-unplaced first (subst (λ (i : Option ℕ). Places tightest s SFde (8 + 16 * k) i t) q p) .0 in
+  pub root-fits : {o : Option ℕ} {t : List ℕ} → Places tightest s SFde z o t → o ≡ none → ⊥
+  root-fits p q =
+      let x = stage-unplaced first (placed-so p q) .0 in
       let y = empty-placed chooses-tightest (blank SFde (8 + 16 * k)) n 2 (omega (arith, length-zeroed (8 + 16 * k))) (length-parts n a .0) in
-      let z : _≡_ {A = ℕ} 0 1 = cc in
+      let c : _≡_ {A = ℕ} 0 1 = cc in
       omega arith
 
-  module _ {o : Option ℕ} {t : List ℕ} (p : Places tightest s SFde (8 + 16 * k) o t) {r : ℕ} (q : o ≡ some r) where
+  module _ {o : Option ℕ} {t : List ℕ} (p : Places tightest s SFde z o t) {r : ℕ} (q : o ≡ some r) where
     root-in : PlacedIn tightest s (emptyVolume n 2 .extents) (blank SFde (8 + 16 * k)) r t
-    root-in = stage-placed first chooses-tightest (directory-object k low high) (subst (λ (i : Option ℕ). Places tightest s SFde (8 + 16 * k) i t) q p)
+    root-in = stage-placed first chooses-tightest (directory-object k low high) (placed-so p q)
 
     root-open : Open s r (8 + 16 * k) (root-in .placed .extents) t
     root-open = open-placed root-in (omega arith) (length-zeroed (8 + 16 * k))

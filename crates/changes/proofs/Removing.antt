@@ -19,6 +19,7 @@ use Rattle.alloc.specs.Volume.{Extent, blockAt, image, objects, objectsFrom, vo
 use Rattle.alloc.proofs.Changes.{Renewed, renewed}
 use Rattle.alloc.proofs.Data.{found}
 use Rattle.alloc.proofs.Entries.{released-other}
+use Rattle.alloc.proofs.Order.{release-order}
 use Rattle.alloc.proofs.Stages.{stage-holds, stage-image, stage-released, stage-start}
 use Rattle.tree.specs.Fields.{Slot, isDir, isFile, slotAt, slots, taken, takenCount}
 use Rattle.tree.specs.WellFormed.{is-taken}
@@ -115,6 +116,12 @@ module _ {s : List ℕ} (h : AllBytes s) {d i : ℕ} (k : TakenSlot s d i) where
       pub clear-done : {t3 : List ℕ} → t3 ≡ afterRelease (y .1) t2 → t3 ≡ image (removed s d i)
       unfolding withExtents
       clear-done {t3} e3 = stage-image (stage-released freed-stage (x .1) object-left (e3 ∙ ap (λ (z : Slot). afterRelease (z .1) t2) q))
+
+  -- the object may be freed before the name
+  pub freed-either : afterRelease (x .0) (afterRelease (x .1) (afterUpdate d (8 + 16 * i) (be64 0 ++ be64 0) s)) ≡ image (removed s d i)
+  freed-either =
+      let o = after-slot refl refl (open-at (x .1) object-there) in
+      release-order apart (clear-name refl refl) (stage-holds (o .renewed) (x .1) (o .there)) ∙ clear-done refl refl refl refl
 
 -- ---- from a directory
 

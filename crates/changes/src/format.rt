@@ -7,6 +7,7 @@ use calls::refusal::Reason;
 use calls::refusal::Refusal;
 use storage::Pos;
 use storage::Ref;
+use tree::fields;
 ghost use mathlib.Core.Path.{_≡_};
 ghost use mathlib.Core.Bool.{true};
 ghost use Prim.Native.Nat.{_+_, _*_, _≤_, _<_};
@@ -22,7 +23,7 @@ fn fresh(image: &mut [u8], slots: u32)
     ensures { λ _. ⌜ now (image .exit) ≡ volume.image (spec.formatted (length (now (image .entry))) slots) ⌝ }
 {
     alloc::create::empty(image, Ref(2));
-    let placed = alloc::place::block(image, block::SFDE, 8 + 16 * slots);
+    let placed = alloc::place::block(image, block::SFDE, fields::directory_size(slots));
     let Placing::At(root) = placed else {
         return;
     };
@@ -40,7 +41,7 @@ pub fn format(image: &mut [u8], slots: u64) -> Refusal
     if (slots < 1) | (1024 < slots) {
         return Refusal::For(Reason::OutOfBounds);
     }
-    if len < 48 + 16 * (slots as usize) {
+    if !alloc::create::has_room(len, fields::directory_size(slots as u32)) {
         return Refusal::For(Reason::NoRoom);
     }
     fresh(image, slots as u32);

@@ -12,6 +12,7 @@ use calls::walk;
 use calls::walk::Start;
 use storage::Pos;
 use storage::Ref;
+use tree::fields;
 ghost use mathlib.Core.Path.{_≡_};
 ghost use mathlib.Core.Bool.{true};
 ghost use Prim.Native.Nat.{_≤_};
@@ -67,7 +68,7 @@ fn size_of(new: New) -> u32
     ensures { λ n. ⌜ n ≡ sizeFor (newOf new) ⌝ }
 {
     match new {
-        New::Directory(slots) => 8 + 16 * (slots as u32),
+        New::Directory(slots) => fields::directory_size(slots as u32),
         New::File(room) => 16 + room as u32,
     }
 }

@@ -1,3 +1,4 @@
+pub mod Worked
 pub mod Sums
 pub mod Nodes
 pub mod Good

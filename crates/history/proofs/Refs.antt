@@ -29,7 +29,3 @@ times-once n r (o ∷ os) h = go (eqb (o .0) r) refl (times-once (suc (o .0)) r 
 pub refs-once : (v : Volume) (r : ℕ) → times r (objects v) ≤ 1
 unfolding objects
 refs-once v r = times-once 2 r (objects v) (objects-rise 2 (v .extents))
-
-pub no-zero : (v : Volume) → times 0 (objects v) ≡ 0
-unfolding objects
-no-zero v = times-below 2 0 (objects v) (objects-rise 2 (v .extents)) (omega arith)

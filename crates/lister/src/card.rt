@@ -3,10 +3,12 @@
 use crate::line;
 use calls::refusal;
 use calls::refusal::Refusal;
+use listing::lines::Line;
 use listing::seek;
 use listing::seek::Cursor;
 use listing::seek::Seen;
 use listing::walk;
+use storage::Ref;
 ghost use mathlib.Core.Path.{_≡_};
 ghost use mathlib.Core.Bool.{true};
 ghost use Rattle.tree.specs.Verdict.{wellFormed};
@@ -23,30 +25,53 @@ fn refuse(r: Refusal) {
     show::say(b"\n");
 }
 
-// The next line; and where the listing goes on.
-fn show_line(image: &[u8], c: Cursor, names: &mut [u64; 17]) -> Cursor
+// The name refs of an object and of the directories above it, each at its depth, where `names` has those of the line before.
+fn with_name(mut names: [Ref; 17], l: Line) -> [Ref; 17] {
+    let depth = l.depth;
+    let name: Ref = l.name;
+    if depth < 17 {
+        let d = depth as usize;
+        names[d] = name;
+    }
+    names
+}
+
+// Where the listing goes on, and the name refs of the last line.
+struct Place {
+    cursor: Cursor,
+    names: [Ref; 17],
+}
+
+// The next line.
+fn show_line(image: &[u8], p: Place) -> Place
     requires { ⌜ wellFormed (now image) ≡ true ⌝ }
 {
-    let step = seek::next(image, c);
+    let above = p.names;
+    let step = seek::next(image, p.cursor);
     let seen = step.seen;
     let cursor = step.cursor;
     let Seen::Here(l) = seen else {
-        return cursor;
+        return Place {
+            cursor,
+            names: above,
+        };
     };
+    let names = with_name(above, l);
     line::say(image, l, names);
-    cursor
+    Place { cursor, names }
 }
 
 // Every line.
 fn show_lines(image: &[u8])
     requires { ⌜ wellFormed (now image) ≡ true ⌝ }
 {
-    let mut names = [0u64; 17];
     let n = walk::count(image);
-    let mut c = seek::start();
+    let cursor = seek::start();
+    let names = [Ref(0); 17];
+    let mut p = Place { cursor, names };
     let mut i: u64 = 0;
     while i < n {
-        c = show_line(image, c, &mut names);
+        p = show_line(image, p);
         i += 1;
     }
 }

@@ -125,12 +125,6 @@ but-last-valid (w ∷ []) e = refl
 but-last-valid (w ∷ v ∷ ws) e =
     all-cons true w (sym (and-left _ _ e)) (allButLast (v ∷ ws)) ∙ but-last-valid (v ∷ ws) (and-right (validName w) _ e)
 
-but-last-length : (ws : List (List ℕ)) → length (allButLast ws) ≤ length ws
-unfolding allButLast
-but-last-length [] = omega arith
-but-last-length (w ∷ []) = omega arith
-but-last-length (w ∷ v ∷ ws) = omega (arith, but-last-length (v ∷ ws))
-
 -- the bytes behind the last slash
 record Last (ws : List (List ℕ)) : Type 0 where
   name : List ℕ
@@ -191,9 +185,3 @@ pub directory-components : (p : List ℕ) → validPath p ≡ true → component
 directory-components p e =
     ap components (directory-path p e)
     ∙ components-joined (allButLast (components p)) (but-last-valid (components p) (valid-components p e .0))
-
-pub directory-valid : (p : List ℕ) → validPath p ≡ true → validPath (directoryOf p) ≡ true
-directory-valid p e =
-    let v = valid-components p e in
-    ap validPath (directory-path p e)
-    ∙ valid-joined (allButLast (components p)) (but-last-valid (components p) (v .0)) (omega (arith, but-last-length (components p)))

@@ -71,12 +71,6 @@ be64-read n s h =
     halves : (x y n : ℕ) → x ≡ n / 4294967296 → y ≡ n % 4294967296 → x * 4294967296 + y ≡ n
     halves x y n e f = omega arith
 
-pub u32-written : (s : List ℕ) (p n : ℕ) → p + 4 ≤ length s → n < 4294967296 → u32At (splice s p (be32 n)) p ≡ n
-unfolding be32
-u32-written s p n h k =
-    u32-agree (splice s p (be32 n)) (be32 n ++ []) p 0 (λ i b. splice-inside s (be32 n) p i h b ∙ sym (ap (λ (m : ℕ). getD (be32 n ++ []) m 0) (zero-add i) ∙ List·getD-append (be32 n) [] 0 i b))
-    ∙ be32-read n [] k
-
 pub u64-written : (s : List ℕ) (p n : ℕ) → p + 8 ≤ length s → n < 18446744073709551616 → u64At (splice s p (be64 n)) p ≡ n
 unfolding be32 be64
 u64-written s p n h k =

@@ -1,7 +1,7 @@
 -- Splices: where they lie in joined lists, and splices that touch, nest or lie apart.
 use Prim.Native.Nat.{ℕ, _+_, _-_, _<_, _≤_}
 use mathlib.Core.List.{List, [], _++_, append-assoc}
-use mathlib.Core.Path.{_≡_, ap, sym, _∙_, subst}
+use mathlib.Core.Path.{_≡_, ap, sym, _∙_}
 use native.Mathlib.Omega.{arith}
 use native.Mathlib.Nat.{add-zero}
 use lib.ListN.{length, take, drop, getD, length-append, length-take, length-drop, take-append-drop, List·getD-append}
@@ -83,31 +83,6 @@ splice-append s x y p h =
     ∙ g
     ∙ sym (splice-right (take p s ++ x) d y 0 (p + length x) l)
     ∙ ap (λ (t : List ℕ). splice t (p + length x) y) (append-assoc (take p s) x d)
-
--- that nest: y over a part of x
-pub splice-nest : (s x y : List ℕ) (p q : ℕ) → p + length x ≤ length s → q + length y ≤ length x
-    → splice (splice s p x) (p + q) y ≡ splice s p (splice x q y)
-unfolding splice
-splice-nest s x y p q h k =
-    let d : List ℕ = drop (p + length x) s in
-    let l : length (splice x q y) ≡ length x = length-splice x y q k in
-    splice-right (take p s) (x ++ d) y q (p + q) (ap (λ (n : ℕ). n + q) (length-take-le p s (omega arith)))
-    ∙ ap (λ (t : List ℕ). take p s ++ t) (splice-left x d y q k)
-    ∙ ap (λ (n : ℕ). take p s ++ (splice x q y ++ drop (p + n) s)) (sym l)
-
--- that lie apart: the order is free
-pub splice-apart : (s x y : List ℕ) (p q : ℕ) → p + length x ≤ q → q ≤ length s → splice (splice s p x) q y ≡ splice (splice s q y) p x
-splice-apart s x y p q h l =
-    let e : length (take q s) ≡ q = length-take-le q s l in
-    subst (λ (t : List ℕ). splice (splice t p x) q y ≡ splice (splice t q y) p x) (take-append-drop q s)
-    (cut (take q s) (drop q s) (omega arith) (omega (arith, add-zero (length (take q s)))))
-  where
-    cut : (a b : List ℕ) → p + length x ≤ length a → length a + 0 ≡ q → splice (splice (a ++ b) p x) q y ≡ splice (splice (a ++ b) q y) p x
-    cut a b h e =
-        ap (λ (t : List ℕ). splice t q y) (splice-left a b x p h)
-        ∙ splice-right (splice a p x) b y 0 q (ap (λ (n : ℕ). n + 0) (length-splice a x p h) ∙ e)
-        ∙ sym (splice-left a (splice b 0 y) x p h)
-        ∙ ap (λ (t : List ℕ). splice t p x) (sym (splice-right a b y 0 q e))
 
 -- ---- what stands where
 

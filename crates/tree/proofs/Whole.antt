@@ -125,13 +125,13 @@ module _ {s m m′ : List ℕ} {v : Verdict} (d : Decides s m v m′) where
     marks-are = e ∙ splice-front-same m m′ (zeroed (length s / 16)) (length s / 16) (length-replicate (length s / 16) 0) (d .beyond) ∙ sym (ap (splice m 0) (after-broken n));
   }
 
-  pub judges-kept : {m″ : List ℕ} → v .rule ≡ 0 → m″ ≡ splice m′ 0 (trimmed (take (length s / 16) m′)) → Judges s m v m″
-  judges-kept n e =
+  pub judges-kept : {m″ : List ℕ} {k : ℕ} → v .rule ≡ 0 → k ≡ length s / 16 → m″ ≡ splice m′ 0 (trimmed (take k m′)) → Judges s m v m″
+  judges-kept n u e =
       let w = d .kinds-are n in
       record {
         verdict-is = d .verdict-is;
         marks-are =
-            e ∙ ap (splice m′ 0) (marked-trimmed w) ∙ splice-front-same m m′ (marksOf s) (length s / 16) (marks-of-long (w .tiled)) (d .beyond) ∙ sym
+            e ∙ ap (splice m′ 0) (ap (λ (k : ℕ). trimmed (take k m′)) u ∙ marked-trimmed w) ∙ splice-front-same m m′ (marksOf s) (length s / 16) (marks-of-long (w .tiled)) (d .beyond) ∙ sym
             (ap (splice m 0) (after-kept n));
       }
 

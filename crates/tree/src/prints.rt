@@ -1,8 +1,7 @@
 // 16 bits of each name in a directory, and chains of slots whose names have like bits: what rule 6 compares.
 
 use crate::fields;
-use alloc::block;
-use storage::Pos;
+use alloc::access;
 use storage::Ref;
 ghost use mathlib.Core.Path.{_≡_};
 ghost use Prim.Native.Nat.{_%_, _≤_, _<_};
@@ -37,9 +36,7 @@ fn print_at(image: &[u8], r: Ref) -> u32
     requires { ⌜ Standing (now image) (r .0) ⌝ }
     ensures { λ p. ⌜ (p ≡ printOf (blockOf (now (image .entry)) (r .0) .body)) × (p < 65536) ⌝ }
 {
-    let from = storage::data_start(r, Pos(0)).0;
-    let to = from + block::size_at(image, r) as usize;
-    print_of(&image[from..to])
+    print_of(access::body(image, r))
 }
 
 // 16 bits of the name in slot `i` of the directory at `r`. Those of an empty slot are any; the slot's number spreads empty slots over the chains.

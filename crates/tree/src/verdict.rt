@@ -4,7 +4,6 @@ use crate::fields;
 use alloc::block;
 use alloc::marks;
 use alloc::tiling::Tiling;
-use storage::Offset;
 use storage::Ref;
 ghost use mathlib.Core.Path.{_≡_};
 ghost use Prim.Native.Nat.{_/_, _≤_, _<_};
@@ -71,7 +70,7 @@ fn first_breaker(image: &[u8], marks: &[u8], rule: Rule, root: Ref) -> Breach
 {
     let len = image.len();
     let mut r = Ref(2);
-    let mut at: usize = 32;
+    let mut at = storage::start(r).0;
     while at < len {
         if !keeps_rule(image, marks, rule, root, r) {
             return Breach::At(r);
@@ -133,7 +132,7 @@ fn none_broken(image: &[u8], marks: &[u8], root: Ref) -> bool
 {
     let len = image.len();
     let mut r = Ref(2);
-    let mut at: usize = 32;
+    let mut at = storage::start(r).0;
     let mut next = alloc::chain::begin(image);
     let mut behind = false;
     while at < len {
@@ -204,7 +203,7 @@ fn first_unslotted(image: &[u8], marks: &mut [u8]) -> Breach
 {
     let len = image.len();
     let mut d = Ref(2);
-    let mut at: usize = 32;
+    let mut at = storage::start(d).0;
     while at < len {
         if !crate::slots::keeps(image, marks, d) {
             return Breach::At(d);
@@ -265,10 +264,10 @@ pub fn judge_marked(image: &[u8], marks: &mut [u8]) -> Verdict
     requires { ⌜ length (now image) / 16 ≤ length (now marks) ⌝ }
     ensures { λ v. ⌜ Judges (now (image .entry)) (now (marks .entry)) (verdictOf v) (now (marks .exit)) ⌝ }
 {
-    let n = image.len() / 16;
+    let n = storage::units_of(image.len()) as usize;
     let v = decide(image, marks);
     if v.rule != 0 {
-        storage::zero(marks, Offset(0), n);
+        marks::clear(image, marks);
         return v;
     }
     trim(marks, n);

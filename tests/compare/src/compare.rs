@@ -2,7 +2,7 @@
 
 use crate::call::{on_model, Call, Outcome};
 use crate::coverage::Coverage;
-use crate::library::on_library;
+use crate::library::Card;
 use crate::model::check::broken_rule;
 use crate::model::layout::{get64, FIRST_FREE};
 use crate::model::list::{FIELDS, LINE};
@@ -22,7 +22,8 @@ impl<'a> Bout<'a> {
         Bout { coverage, calls: 0, tell }
     }
 
-    /// Changes the image as the model does; an error tells the call and the difference.
+    /// Changes the image as the model does, and tells what the library answers; an error tells the call and the
+    /// difference.
     pub fn step(&mut self, image: &mut [u8], call: &Call) -> Result<Outcome, String> {
         self.calls += 1;
         if self.tell {
@@ -39,12 +40,12 @@ impl<'a> Bout<'a> {
             }
             _ => (),
         }
-        match self.difference(&before, image, call, &wanted) {
-            None => Ok(wanted),
-            Some(what) => {
-                Err(format!("call {}, {call}, on an image of {} bytes: {what}", self.calls, before.len()))
-            }
-        }
+        answer(&before, image, call, &wanted).map_err(|what| self.blame(call, before.len(), what))
+    }
+
+    /// What is wrong, with the call that was last.
+    pub fn blame(&self, call: &Call, length: usize, what: String) -> String {
+        format!("call {}, {call}, on an image of {length} bytes: {what}", self.calls)
     }
 
     fn count_list(&mut self, image: &[u8], numbers: usize, wanted: &Outcome) {
@@ -53,25 +54,29 @@ impl<'a> Bout<'a> {
             self.coverage.count_list(numbers, wanted.numbers[0] as usize, full);
         }
     }
+}
 
-    fn difference(&self, before: &[u8], after: &[u8], call: &Call, wanted: &Outcome) -> Option<String> {
-        if let Some(what) = misled(before, after, wanted) {
-            return Some(what);
-        }
-        let (found, image) = match on_library(before, call) {
-            Ok(answer) => answer,
-            Err(what) => return Some(what),
-        };
-        if found.refusal != wanted.refusal {
-            return Some(format!("answer {}, model {}", found.refusal, wanted.refusal));
-        }
-        if found.numbers != wanted.numbers {
-            return Some(format!("numbers {:?}, model {:?}", found.numbers, wanted.numbers));
-        }
-        unlike("buffer", &found.buffer, &wanted.buffer)
-            .or_else(|| unlike_lines(&found.lines, &wanted.lines))
-            .or_else(|| unlike("image", &image, after))
+/// The library's answer, which must be the model's.
+fn answer(before: &[u8], after: &[u8], call: &Call, wanted: &Outcome) -> Result<Outcome, String> {
+    if let Some(what) = misled(before, after, wanted) {
+        return Err(what);
     }
+    let mut card = Card::new(before);
+    let found = card.call(call)?;
+    match difference(&found, wanted).or_else(|| unlike("image", card.image(), after)) {
+        None => Ok(found),
+        Some(what) => Err(what),
+    }
+}
+
+fn difference(found: &Outcome, wanted: &Outcome) -> Option<String> {
+    if found.refusal != wanted.refusal {
+        return Some(format!("answer {}, model {}", found.refusal, wanted.refusal));
+    }
+    if found.numbers != wanted.numbers {
+        return Some(format!("numbers {:?}, model {:?}", found.numbers, wanted.numbers));
+    }
+    unlike("buffer", &found.buffer, &wanted.buffer).or_else(|| unlike_lines(&found.lines, &wanted.lines))
 }
 
 /// What the model must keep itself: a refusal changes nothing, and no call spoils an image.

@@ -36,6 +36,9 @@ pub struct Coverage {
     /// Too few marks on images that are not well formed.
     marks_first: u64,
     most_marks: usize,
+    /// Comparisons with the book, and objects that were looked at one by one.
+    books: u64,
+    book_objects: u64,
 }
 
 /// An index of `LENT`.
@@ -93,6 +96,12 @@ impl Coverage {
         }
     }
 
+    /// A comparison with the book, and so many of its objects.
+    pub fn count_book(&mut self, objects: usize) {
+        self.books += 1;
+        self.book_objects += objects as u64;
+    }
+
     pub fn calls_in_all(&self) -> u64 {
         self.calls.iter().flatten().sum()
     }
@@ -112,6 +121,16 @@ impl Coverage {
             print!(" {number} {count} times,");
         }
         println!(" with a place {}", self.placed);
+        if self.books > 0 {
+            self.print_books("  ");
+        }
+    }
+
+    fn print_books(&self, indent: &str) {
+        println!(
+            "{indent}compared with the book {} times, objects looked at {}",
+            self.books, self.book_objects
+        );
     }
 
     pub fn print(&self) {
@@ -130,6 +149,7 @@ impl Coverage {
             "deepest path {}, most free blocks {}, most objects {}, calls on full cards {}",
             self.deepest, self.most_free_blocks, self.most_objects, self.full_cards
         );
+        self.print_books("");
     }
 
     fn print_lists(&self) {

@@ -4,8 +4,10 @@ use crate::model::layout::*;
 use crate::random::Random;
 use crate::scene::{Scene, Thing};
 
-pub fn scribble(random: &mut Random, image: &mut [u8], scene: &Scene) {
-    match random.below(10) {
+/// Tells whether it changed files, and not undefined bytes alone.
+pub fn scribble(random: &mut Random, image: &mut [u8], scene: &Scene) -> bool {
+    let what = random.below(10);
+    match what {
         0..=3 => behind_sizes(random, image, scene),
         4..=6 => in_free_blocks(random, image, scene),
         7 => contents(random, image, scene),
@@ -15,6 +17,7 @@ pub fn scribble(random: &mut Random, image: &mut [u8], scene: &Scene) {
             in_free_blocks(random, image, scene);
         }
     }
+    matches!(what, 7 | 8)
 }
 
 /// Bytes past every file's size.

@@ -13,6 +13,7 @@ use crate::model::marks::marks_needed;
 use crate::pick::{any_call, lend, marks, MOODS};
 use crate::random::Random;
 use crate::scene::Scene;
+use crate::story::Story;
 
 type Verdict = Result<(), String>;
 
@@ -94,7 +95,7 @@ fn fill(builder: &mut Builder, length: usize, style: Style, places: &[(usize, us
 
 /// Every kind of call, damaged copies, and a row of random calls.
 fn visit(random: &mut Random, bout: &mut Bout, image: Vec<u8>) -> Verdict {
-    let mut image = sound(image)?;
+    let image = sound(image)?;
     bout.coverage.count_image(image.len());
     let scene = Scene::of(&image);
     for call in calls(random, &scene, image.len()) {
@@ -106,8 +107,9 @@ fn visit(random: &mut Random, bout: &mut Bout, image: Vec<u8>) -> Verdict {
             torture(random, bout, &damaged, &scene, 3)?;
         }
     }
-    remake(bout, &mut image, &scene)?;
-    roam(random, bout, &mut image)
+    let mut story = Story::found(image);
+    remake(bout, &mut story, &scene)?;
+    roam(random, bout, story)
 }
 
 /// A copy with one damage, which breaks this rule first where a few trials find one that does.
@@ -161,33 +163,34 @@ fn calls(random: &mut Random, scene: &Scene, length: usize) -> Vec<Call> {
 }
 
 /// Removes some files and makes others in their place, of them one that has a point.
-fn remake(bout: &mut Bout, image: &mut [u8], scene: &Scene) -> Verdict {
+fn remake(bout: &mut Bout, story: &mut Story, scene: &Scene) -> Verdict {
     let paths = some_paths(scene);
     for path in &paths {
-        bout.step(image, &Call::Remove { path: path.clone() })?;
+        story.step(bout, &Call::Remove { path: path.clone() })?;
     }
     let path = &paths[0];
-    bout.step(image, &Call::MakeFile { path: path.clone(), room: 24 })?;
-    bout.step(image, &Call::Write { path: path.clone(), position: 3, bytes: vec![7; 15] })?;
-    bout.step(image, &Call::ReadPoint { path: path.clone(), number: 1 })?;
+    story.step(bout, &Call::MakeFile { path: path.clone(), room: 24 })?;
+    story.step(bout, &Call::Write { path: path.clone(), position: 3, bytes: vec![7; 15] })?;
+    story.step(bout, &Call::ReadPoint { path: path.clone(), number: 1 })?;
     for (path, room) in paths[1..].iter().zip([0, 65]) {
-        bout.step(image, &Call::MakeFile { path: [&path[..], b"x"].concat(), room })?;
-        bout.step(image, &Call::MakeFile { path: path.clone(), room })?;
+        story.step(bout, &Call::MakeFile { path: [&path[..], b"x"].concat(), room })?;
+        story.step(bout, &Call::MakeFile { path: path.clone(), room })?;
     }
     Ok(())
 }
 
 /// Random calls one after the other; format, which would empty the card, on a copy.
-fn roam(random: &mut Random, bout: &mut Bout, image: &mut [u8]) -> Verdict {
+fn roam(random: &mut Random, bout: &mut Bout, mut story: Story) -> Verdict {
     for _ in 0..STEPS {
         let mood = random.one(&MOODS);
-        match any_call(random, &Scene::of(image), image.len(), mood) {
-            format @ Call::Format { .. } => bout.step(&mut image.to_vec(), &format)?,
-            call => bout.step(image, &call)?,
+        match any_call(random, &Scene::of(&story.image), story.image.len(), mood) {
+            format @ Call::Format { .. } => bout.step(&mut story.image.clone(), &format)?,
+            call => story.step(bout, &call)?,
         };
     }
-    markings(random, bout, image)?;
-    listings(random, bout, image)
+    markings(random, bout, &story.image)?;
+    listings(random, bout, &mut story.image)?;
+    story.end(bout)
 }
 
 #[test]

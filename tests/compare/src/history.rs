@@ -12,6 +12,7 @@ use crate::pick::{any_call, call, check_marked, lend, marks, Mood, MOODS};
 use crate::random::Random;
 use crate::scatter::{crowd, scatter, Plan, EXCESSES};
 use crate::scene::Scene;
+use crate::story::Story;
 
 type Verdict = Result<(), String>;
 
@@ -40,16 +41,17 @@ fn awkward(random: &mut Random, bout: &mut Bout) -> Verdict {
         _ if random.percent(10) => LONGEST + random.one(&[1, 15, 16, 64]),
         _ => 16 * random.within(4, 12) + random.one(&[1, 8, 15]),
     };
-    let mut image = if random.percent(60) { random.bytes(length) } else { vec![0; length] };
+    let mut story = Story::blank(if random.percent(60) { random.bytes(length) } else { vec![0; length] });
     bout.coverage.count_image(length);
     bout.coverage.bad_lengths += u64::from(!allowed_length(length));
     let count = if length > 4096 { 3 } else { 12 };
     for _ in 0..count {
         let index = random.below(CALLS.len());
-        let call = call(random, &Scene::of(&image), image.len(), Mood::Working, index);
-        bout.step(&mut image, &call)?;
+        let call = call(random, &Scene::of(&story.image), length, Mood::Working, index);
+        story.step(bout, &call)?;
     }
-    markings(random, bout, &image)
+    markings(random, bout, &story.image)?;
+    story.end(bout)
 }
 
 /// A formatted image and a row of calls.
@@ -60,12 +62,12 @@ fn formatted(random: &mut Random, bout: &mut Bout) -> Verdict {
         12..=17 => random.within(40, 120),
         _ => random.within(100, 300),
     };
-    let mut image = random.bytes(16 * units);
-    bout.coverage.count_image(image.len());
+    let mut story = Story::blank(random.bytes(16 * units));
+    bout.coverage.count_image(16 * units);
     let slots = if random.percent(70) { random.within(1, 4) } else { random.within(1, units - 3) };
-    bout.step(&mut image, &Call::Format { slots: slots.min(units - 3) as u64 })?;
+    story.step(bout, &Call::Format { slots: slots.min(units - 3) as u64 })?;
     let steps = random.within(30, 150);
-    live(random, bout, &mut image, steps)
+    live(random, bout, story, steps)
 }
 
 /// An image of blocks in any order.
@@ -78,16 +80,16 @@ fn scattered(random: &mut Random, bout: &mut Bout) -> Verdict {
         slots: random.one(&[1, 2, 4, 9]),
         excess: None,
     };
-    let mut image = laid_out(bout, scatter(random, &plan))?;
-    bout.coverage.count_image(image.len());
+    let story = laid_out(bout, scatter(random, &plan))?;
+    bout.coverage.count_image(story.image.len());
     let steps = random.within(20, 80);
-    live(random, bout, &mut image, steps)
+    live(random, bout, story, steps)
 }
 
 /// A scattered image that must be well formed.
-fn laid_out(bout: &mut Bout, image: Vec<u8>) -> Result<Vec<u8>, String> {
+fn laid_out(bout: &mut Bout, image: Vec<u8>) -> Result<Story, String> {
     bout.coverage.scattered += 1;
-    sound(image)
+    sound(image).map(Story::found)
 }
 
 /// An image that must be well formed, though no call made it.
@@ -105,9 +107,9 @@ fn deep(random: &mut Random, bout: &mut Bout) -> Verdict {
     if depth > 16 {
         return (0..6).try_for_each(|_| too_deep(random, bout, &plan));
     }
-    let mut image = laid_out(bout, scatter(random, &plan))?;
-    bout.coverage.count_image(image.len());
-    live(random, bout, &mut image, 25)
+    let story = laid_out(bout, scatter(random, &plan))?;
+    bout.coverage.count_image(story.image.len());
+    live(random, bout, story, 25)
 }
 
 /// An image of this plan, which is deeper than is allowed.
@@ -130,7 +132,7 @@ fn exceeding(random: &mut Random, bout: &mut Bout) -> Verdict {
 
 /// Large images with few blocks, or many.
 fn large(random: &mut Random, bout: &mut Bout) -> Verdict {
-    let mut image;
+    let mut story;
     if random.percent(40) {
         let plan = Plan {
             objects: random.within(30, 160),
@@ -140,42 +142,42 @@ fn large(random: &mut Random, bout: &mut Bout) -> Verdict {
             slots: 20,
             excess: None,
         };
-        image = laid_out(bout, scatter(random, &plan))?;
+        story = laid_out(bout, scatter(random, &plan))?;
     } else if random.percent(30) {
         let slots = random.one(&[100, 255, 256, 1023, 1024]);
-        image = laid_out(bout, crowd(random, slots))?;
+        story = laid_out(bout, crowd(random, slots))?;
     } else {
         let whole = random.within(4096, LONGEST / 16);
         let length = random.one(&[16 * whole, LONGEST, 65_536, 131_072, 131_072 + 16 * 300]);
-        image = vec![random.byte(); length];
+        story = Story::blank(vec![random.byte(); length]);
         let slots = random.one(&[2, 8, 30, 400, 1024]);
-        bout.step(&mut image, &Call::Format { slots })?;
-        big_file(random, bout, &mut image)?;
+        story.step(bout, &Call::Format { slots })?;
+        big_file(random, bout, &mut story)?;
     }
-    bout.coverage.count_image(image.len());
-    live(random, bout, &mut image, 40)
+    bout.coverage.count_image(story.image.len());
+    live(random, bout, story, 40)
 }
 
 /// A file of the greatest room, its last bytes and its last point.
-fn big_file(random: &mut Random, bout: &mut Bout, image: &mut [u8]) -> Verdict {
+fn big_file(random: &mut Random, bout: &mut Bout, story: &mut Story) -> Verdict {
     let path = b"/big".to_vec();
-    bout.step(image, &Call::MakeFile { path: path.clone(), room: 65_536 })?;
+    story.step(bout, &Call::MakeFile { path: path.clone(), room: 65_536 })?;
     let bytes = random.bytes(65_536);
-    bout.step(image, &Call::Write { path: path.clone(), position: 0, bytes })?;
-    bout.step(image, &Call::ReadPoint { path: path.clone(), number: 4096 })?;
+    story.step(bout, &Call::Write { path: path.clone(), position: 0, bytes })?;
+    story.step(bout, &Call::ReadPoint { path: path.clone(), number: 4096 })?;
     let position = random.one(&[65_536, 65_537, 65_535, 131_072, 1 << 32]);
-    bout.step(image, &Call::Read { path: path.clone(), position, buffer: random.bytes(20) })?;
+    story.step(bout, &Call::Read { path: path.clone(), position, buffer: random.bytes(20) })?;
     let length = random.one(&[65_535, 65_536, 65_537, 65_520]);
-    bout.step(image, &Call::SetLength { path: path.clone(), length })?;
-    bout.step(image, &Call::ReadPoint { path, number: 4096 })?;
+    story.step(bout, &Call::SetLength { path: path.clone(), length })?;
+    story.step(bout, &Call::ReadPoint { path, number: 4096 })?;
     Ok(())
 }
 
 /// Calls on a well-formed image, with foreign bytes and damaged copies between them.
-fn live(random: &mut Random, bout: &mut Bout, image: &mut [u8], steps: usize) -> Verdict {
+fn live(random: &mut Random, bout: &mut Bout, mut story: Story, steps: usize) -> Verdict {
     let mut mood = Mood::Filling;
     for _ in 0..steps {
-        let scene = Scene::of(image);
+        let scene = Scene::of(&story.image);
         if random.percent(8) {
             mood = random.one(&MOODS);
         }
@@ -185,24 +187,30 @@ fn live(random: &mut Random, bout: &mut Bout, image: &mut [u8], steps: usize) ->
         bout.coverage.count_scene(scene.depth(), scene.free.len(), scene.things.len());
         match random.below(100) {
             0..=79 => {
-                let call = any_call(random, &scene, image.len(), mood);
-                bout.step(image, &call)?;
+                let call = any_call(random, &scene, story.image.len(), mood);
+                story.step(bout, &call)?;
             }
-            80..=89 => {
-                scribble(random, image, &scene);
-                bout.coverage.foreign += 1;
-            }
+            80..=89 => meddle(random, bout, &mut story, &scene),
             _ => {
-                let mut damaged = image.to_vec();
+                let mut damaged = story.image.clone();
                 damage(random, &mut damaged, &scene);
                 bout.coverage.count_damaged(broken_rule(&damaged));
                 torture(random, bout, &damaged, &scene, 3)?;
             }
         }
     }
-    bout.step(image, &Call::Check)?;
-    markings(random, bout, image)?;
-    listings(random, bout, image)
+    story.step(bout, &Call::Check)?;
+    markings(random, bout, &story.image)?;
+    listings(random, bout, &mut story.image)?;
+    story.end(bout)
+}
+
+/// Foreign bytes. The book stays where they are in no file; so what stands there must never show.
+fn meddle(random: &mut Random, bout: &mut Bout, story: &mut Story, scene: &Scene) {
+    if scribble(random, &mut story.image, scene) {
+        story.reread();
+    }
+    bout.coverage.foreign += 1;
 }
 
 /// Checks with one mark too few, just enough, and more.

@@ -95,30 +95,42 @@ impl Out {
     }
 }
 
-/// The call on the library: its outcome and the image afterwards, or what it overran.
-pub fn on_library(image: &[u8], call: &Call) -> Result<(Outcome, Vec<u8>), String> {
-    let mut card = Lent::new(GUARD, image);
-    let mut loan = loan(call);
-    let path = loan.path.content().to_vec();
-    let lent = loan.buffer.content().to_vec();
-    let mut out = Out::junk();
-    let number = enter(&mut card, &mut loan, &mut out, call);
-    if let Some(what) = overrun(&card, &loan) {
-        return Err(format!("what stands beside the {what} was changed"));
+/// An image in the library's hands, between guards.
+pub struct Card(Lent<u8>);
+
+impl Card {
+    pub fn new(image: &[u8]) -> Card {
+        Card(Lent::new(GUARD, image))
     }
-    if loan.path.content() != path {
-        return Err("the path was changed".to_string());
+
+    pub fn image(&self) -> &[u8] {
+        self.0.content()
     }
-    let mut buffer = loan.buffer.content().to_vec();
-    if matches!(call, Call::Write { .. }) {
-        if buffer != lent {
-            return Err("the bytes to write were changed".to_string());
+
+    /// The call's outcome, or what it overran.
+    pub fn call(&mut self, call: &Call) -> Result<Outcome, String> {
+        let mut loan = loan(call);
+        let path = loan.path.content().to_vec();
+        let lent = loan.buffer.content().to_vec();
+        let mut out = Out::junk();
+        let number = enter(&mut self.0, &mut loan, &mut out, call);
+        if let Some(what) = overrun(&self.0, &loan) {
+            return Err(format!("what stands beside the {what} was changed"));
         }
-        buffer.clear();
+        if loan.path.content() != path {
+            return Err("the path was changed".to_string());
+        }
+        let mut buffer = loan.buffer.content().to_vec();
+        if matches!(call, Call::Write { .. }) {
+            if buffer != lent {
+                return Err("the bytes to write were changed".to_string());
+            }
+            buffer.clear();
+        }
+        let lines = loan.lines.content().to_vec();
+        let refusal = Refusal { number, place: out.place(call) };
+        Ok(Outcome { refusal, numbers: out.numbers(call), buffer, lines })
     }
-    let lines = loan.lines.content().to_vec();
-    let refusal = Refusal { number, place: out.place(call) };
-    Ok((Outcome { refusal, numbers: out.numbers(call), buffer, lines }, card.content().to_vec()))
 }
 
 /// What has a changed guard.

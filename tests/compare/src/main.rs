@@ -1,5 +1,6 @@
 //! Runs random histories through the store's static library and through a model of the written rules, and
-//! compares every answer, every lent number and buffer, and every byte of the image.
+//! compares every answer, every lent number and buffer, and every byte of the image. Beside the model stands the
+//! book, which says what the accepted calls say: the listing, every find and every read must show it.
 //!
 //! Before the histories come fixed cases, images that break a rule, names at the edges of UTF-8, directories
 //! of names that are alike, cards full of blocks and of files, and cards full of gaps.
@@ -11,6 +12,7 @@
 
 mod alike;
 mod bench;
+mod book;
 mod broken;
 mod builder;
 mod call;
@@ -31,6 +33,8 @@ mod pick;
 mod random;
 mod scatter;
 mod scene;
+mod shown;
+mod story;
 mod utf8;
 
 use coverage::Coverage;
