@@ -1,4 +1,4 @@
-pub mod Worked
+pub mod Bench
 pub mod Sums
 pub mod Nodes
 pub mod Good

@@ -5,14 +5,39 @@ use mathlib.Core.List.{List, [], _++_, _∷_}
 use mathlib.Core.Path.{_≡_, ap, refl}
 use native.Mathlib.Omega.{arith}
 use Rattle.calls.proofs.Contents.{file-no-dir}
-use Rattle.alloc.specs.Block.{Block}
+use Rattle.storage.specs.Bytes.{be32, be64, u32At, u64At, zeroed}
+use Rattle.alloc.specs.Block.{Block, SFde, SFre}
 use Rattle.alloc.specs.Volume.{Objects, blockAt}
-use Rattle.tree.specs.Fields.{isFile, slots}
+use Rattle.tree.specs.Fields.{Slot, isFile, slots, slotsFrom, takenCount}
+use Rattle.calls.specs.Reading as kinds
 use Rattle.tree.proofs.Indexed.{slots-other}
 use Rattle.history.specs.Listing.{Line, lineOf, objectLines, slotLines}
+use Rattle.history.specs.Bench.{line}
 use Rattle.history.proofs.Nodes.{Among, DirNode, Node, Rep, Stands, dir, empty, end, file, height, slotsOf}
 use Rattle.history.proofs.Sums.{times}
 use Rattle.history.proofs.Walks.{among-top, file-there, of-dir, rest-of, root-there, row-of, taken-some}
+
+-- ---- the lines of a small tree, computed: a directory with a file, an empty slot, and a directory that holds a file
+
+abbrev slotBytes : List Slot → List ℕ
+slotBytes [] = []
+slotBytes (s ∷ ss) = be64 (s .0) ++ (be64 (s .1) ++ slotBytes ss)
+
+abbrev folder : ℕ → List Slot → Block
+folder parent ss = record { magic = SFde; body = be64 parent ++ slotBytes ss }
+
+abbrev bare : Block
+bare = record { magic = SFre; body = zeroed 16 }
+
+abbrev small : Objects
+small = (2, folder 2 ((9, 5) ∷ (0, 0) ∷ (12, 10) ∷ [])) ∷ (5, bare) ∷ (10, folder 2 ((15, 13) ∷ [])) ∷ (13, bare) ∷ []
+
+small-lines : objectLines 16 small 2 2 0 0
+    ≡ line 2 2 0 0 (kinds.directory 2 3) ∷ line 5 2 9 1 (kinds.file 0 0) ∷ line 10 2 12 1 (kinds.directory 1 1) ∷ line 13 10 15 2 (kinds.file 0 0) ∷ []
+unfolding be32 be64 u32At u64At blockAt slotsFrom slots takenCount lineOf slotLines objectLines
+small-lines = refl
+
+-- ---- in general
 
 -- a row's lines: up is the directory, d the depth of its objects
 abbrev pub rowLines : ℕ → ℕ → Node → List Line

@@ -4,4 +4,4 @@ pub mod History
 pub mod TreeOf
 pub mod Claim
 pub mod Telling
-pub mod Worked
+pub mod Bench

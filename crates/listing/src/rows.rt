@@ -34,7 +34,7 @@ pub struct Told {
 }
 
 // The next line, where there is one.
-pub fn line_at(image: &[u8], c: Cursor) -> Told
+fn line_at(image: &[u8], c: Cursor) -> Told
     requires { ⌜ (wellFormed (now image) ≡ true) × (0 < length (linesFrom (now image) (c .slots))) ⌝ }
     ensures { λ t. ⌜ linesFrom (now (image .entry)) (c .slots) ≡ lineIs (t .line) ∷ linesFrom (now (image .entry)) (t .cursor .slots) ⌝ }
 {

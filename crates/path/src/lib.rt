@@ -92,13 +92,13 @@ fn end_of(path: &[u8], begin: usize) -> usize
 }
 
 // The bytes from `begin` up to `end`.
-pub struct Span {
-    pub begin: usize,
-    pub end: usize,
+struct Span {
+    begin: usize,
+    end: usize,
 }
 
 // Where component `i` of `path` lies; an empty span where there is no such component.
-pub fn bounds(path: &[u8], i: usize) -> Span
+fn bounds(path: &[u8], i: usize) -> Span
     ensures { λ r. ⌜ Bounded (now (path .entry)) i (r .begin) (r .end) ⌝ }
 {
     let begin = begin_of(path, i);

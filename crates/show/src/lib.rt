@@ -1,5 +1,6 @@
 // What the programs share: an image written as words, and lines of text.
 
+use calls::reading::Kind;
 use calls::refusal;
 use calls::refusal::Refusal;
 use libc::STDOUT_FILENO;
@@ -61,4 +62,18 @@ pub fn say_answer(number: u8, place: u64) {
 
 pub fn say_refusal(r: Refusal) {
     say_answer(refusal::number(r), refusal::place(r).0);
+}
+
+// A kind and its two numbers.
+pub fn say_kind(kind: Kind) {
+    match kind {
+        Kind::File { size, room } => {
+            say_number(b", file ", size);
+            say_number(b"/", room);
+        }
+        Kind::Directory { taken, total } => {
+            say_number(b", directory ", taken);
+            say_number(b"/", total);
+        }
+    }
 }

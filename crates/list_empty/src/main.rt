@@ -1,5 +1,0 @@
-// The listing of a card with nothing on it.
-
-fn main() {
-    lister::run();
-}

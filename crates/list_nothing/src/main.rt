@@ -1,5 +1,0 @@
-// The listing of no input at all.
-
-fn main() {
-    lister::run();
-}
