@@ -158,7 +158,7 @@ module _ {s : List ℕ} (h : AllBytes s) {r : ℕ} (f : FileIn s r) where
             by-bytes (y ∷ ys) q w = record { refusal-is = refl; image-is = w }
 
     -- zeros between the old end and the new; then the size
-    module _ (size : ℕ) {from to : ℕ} (g : from ≡ min size z) (k : to ≡ max size z) (l : size ≤ room (blockIn s r)) where
+    module _ (size : ℕ) {from to : ℕ} (b : from ≤ size) (k : to ≡ max size z) (l : size ≤ room (blockIn s r)) where
       -- they lie within the data
       pub cut-inside : 16 + from + (to - from) ≤ room (blockIn s r) + 16
       cut-inside = omega (arith, size-read h f e, formed-file s h (f .formed) r (f .kind) .0)
@@ -169,8 +169,8 @@ module _ {s : List ℕ} (h : AllBytes s) {r : ℕ} (f : FileIn s r) where
         cut-open = store (open-file h f) (16 + from) (zeroed (to - from)) (omega (arith, length-zeroed (to - from), cut-inside)) et
 
         -- after the size
-        pub resized-done : {v : List ℕ} → v ≡ afterUpdate r 0 (be64 size) t → Changes (resized s r size) Accepted v
-        resized-done {v} ev = record {
+        pub resized-done : from ≡ min size z → {v : List ℕ} → v ≡ afterUpdate r 0 (be64 size) t → Changes (resized s r size) Accepted v
+        resized-done g {v} ev = record {
           refusal-is = refl;
           image-is =
               size-stored from size (zeroed (to - from)) cut-open ev

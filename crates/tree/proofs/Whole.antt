@@ -131,7 +131,8 @@ module _ {s m m′ : List ℕ} {v : Verdict} (d : Decides s m v m′) where
       record {
         verdict-is = d .verdict-is;
         marks-are =
-            e ∙ ap (splice m′ 0) (ap (λ (k : ℕ). trimmed (take k m′)) u ∙ marked-trimmed w) ∙ splice-front-same m m′ (marksOf s) (length s / 16) (marks-of-long (w .tiled)) (d .beyond) ∙ sym
+            e ∙ ap (splice m′ 0) (ap (λ (k : ℕ). trimmed (take k m′)) u ∙ marked-trimmed w)
+            ∙ splice-front-same m m′ (marksOf s) (length s / 16) (marks-of-long (w .tiled)) (d .beyond) ∙ sym
             (ap (splice m 0) (after-kept n));
       }
 

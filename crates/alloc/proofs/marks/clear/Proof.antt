@@ -16,7 +16,9 @@ same-length : tie.Need-same-length
 same-length c = search needs
 
 returns : tie.Need-returns
-returns c = c .before .before .zero .ensures ∙ ap (λ (n : ℕ). splice (c .before .before .before .before .before .before .before .args .marks .now) 0 (zeroed n)) (c .before .before .before .units-of .ensures)
+returns c =
+    c .before .before .zero .ensures ∙ ap (λ (n : ℕ). splice (c .before .before .before .before .before .before .before .args .marks .now) 0 (zeroed n))
+    (c .before .before .before .units-of .ensures)
 
 pub clear-spec : {M : Type 1} → statement M
 clear-spec =

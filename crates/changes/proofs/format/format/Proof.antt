@@ -30,8 +30,14 @@ has-room-requires c κs = search needs
 
 returns-3 : tie.Need-returns-3
 returns-3 c =
-    format-room _ _ (sym (c .before .before .before .before .before .length-allowed .ensures) ∙ not-false _ (c .before .before .before .before .if1 .left)) (inside 1 1024 (c .before .before .before .before .before .before .before .args .slots) (c .before .before .before .if2 .left))
-    (omega (arith, c .before .before .directory-size .ensures, leb-false (32 + 16 * unitsFor (c .before .before .directory-size .result)) (length (c .before .before .before .before .before .before .before .args .image .now)) (sym (c .before .has-room .ensures) ∙ not-true _ (c .if3 .taken))))
+    format-room _ _ (sym (c .before .before .before .before .before .length-allowed .ensures) ∙ not-false _ (c .before .before .before .before .if1 .left))
+    (inside 1 1024 (c .before .before .before .before .before .before .before .args .slots) (c .before .before .before .if2 .left))
+    (omega (
+      arith,
+      c .before .before .directory-size .ensures,
+      leb-false (32 + 16 * unitsFor (c .before .before .directory-size .result))
+          (length (c .before .before .before .before .before .before .before .args .image .now)) (sym (c .before .has-room .ensures) ∙ not-true _ (c .if3 .taken)),
+    ))
 
 cast-fresh : tie.Need-cast-fresh
 cast-fresh c = omega (arith, inside 1 1024 (c .before .before .before .before .before .before .before .before .args .slots) (c .before .before .before .before .if2 .left))
@@ -39,16 +45,26 @@ cast-fresh c = omega (arith, inside 1 1024 (c .before .before .before .before .b
 fresh-requires : tie.Need-fresh-requires
 fresh-requires c κs =
     let b = inside 1 1024 (c .before .before .before .before .before .before .before .before .args .slots) (c .before .before .before .before .if2 .left) in
-    let h = leb-true (32 + 16 * unitsFor (c .before .before .before .directory-size .result)) (length (c .before .before .before .before .before .before .before .before .args .image .now)) (sym (c .before .before .has-room .ensures) ∙ not-false _ (c .before .if3 .left)) in
-    (sym (c .before .before .before .before .before .before .length-allowed .ensures) ∙ not-false _ (c .before .before .before .before .before .if1 .left), b .0, omega (arith, b), omega (arith, c .before .before .before .directory-size .ensures, h))
+    let h = leb-true (32 + 16 * unitsFor (c .before .before .before .directory-size .result)) (length (c .before .before .before .before .before .before .before .before .args .image .now))
+    (sym (c .before .before .has-room .ensures) ∙ not-false _ (c .before .if3 .left)) in (
+      sym (c .before .before .before .before .before .before .length-allowed .ensures) ∙ not-false _ (c .before .before .before .before .before .if1 .left),
+      b .0,
+      omega (arith, b),
+      omega
+          (arith, c .before .before .before .directory-size .ensures, h),
+    )
 
 same-length : tie.Need-same-length
 same-length c = search needs
 
 returns-4 : tie.Need-returns-4
 returns-4 c =
-    let h = leb-true (32 + 16 * unitsFor (c .before .before .before .before .before .before .directory-size .result)) (length (c .before .before .before .before .before .before .before .before .before .before .before .args .image .now)) (sym (c .before .before .before .before .before .has-room .ensures) ∙ not-false _ (c .before .before .before .before .if3 .left)) in
-    format-done _ _ (sym (c .before .before .before .before .before .before .before .before .before .length-allowed .ensures) ∙ not-false _ (c .before .before .before .before .before .before .before .before .if1 .left)) (inside 1 1024 (c .before .before .before .before .before .before .before .before .before .before .before .args .slots) (c .before .before .before .before .before .before .before .if2 .left))
+    let h = leb-true (32 + 16 * unitsFor (c .before .before .before .before .before .before .directory-size .result))
+    (length (c .before .before .before .before .before .before .before .before .before .before .before .args .image .now))
+    (sym (c .before .before .before .before .before .has-room .ensures) ∙ not-false _ (c .before .before .before .before .if3 .left)) in
+    format-done _ _ (sym (c .before .before .before .before .before .before .before .before .before .length-allowed .ensures) ∙ not-false _
+    (c .before .before .before .before .before .before .before .before .if1 .left)) (inside 1 1024
+    (c .before .before .before .before .before .before .before .before .before .before .before .args .slots) (c .before .before .before .before .before .before .before .if2 .left))
     (omega (arith, c .before .before .before .before .before .before .directory-size .ensures, h)) (c .before .before .fresh .ensures)
 
 pub format-spec : {M : Type 1} → statement M

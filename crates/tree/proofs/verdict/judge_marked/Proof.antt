@@ -26,7 +26,9 @@ same-length-2 : tie.Need-same-length-2
 same-length-2 c = search needs
 
 returns-2 : tie.Need-returns-2
-returns-2 c = judges-kept (c .before .before .before .before .before .before .before .before .decide .ensures) (c .before .before .before .before .if1 .left) (c .before .before .before .before .before .before .before .before .before .before .units-of .ensures) (c .before .before .trim .ensures)
+returns-2 c =
+    judges-kept (c .before .before .before .before .before .before .before .before .decide .ensures) (c .before .before .before .before .if1 .left)
+    (c .before .before .before .before .before .before .before .before .before .before .units-of .ensures) (c .before .before .trim .ensures)
 
 pub judge-marked-spec : {M : Type 1} → statement M
 judge-marked-spec =
