@@ -11,10 +11,14 @@ import sys
 WORD = re.compile(r"[^\s(){}\[\],;.:`'\"|⌜⌝◌]+(?:'+(?![\w]))?")
 DECLARED = re.compile(
     r"^\s*(?:(?:unfoldable|abbrev|pub)\s+)*(?:(?:data|record)\s+)?([^\s:(){}]+)\s*(?:\{[^{}]*\}\s*|\((?:[^()]|\([^()]*\))*\)\s*)*:\s")
+# fields of records, which may have a definition's name
+FIELDS = ("is-dir", "slots-stand")
+# what has another name, since it would fall together with a definition
+NAMED = {"well-formed": "is_well_formed"}
 # lemmas that the kit's script gave the names that definitions have now: a lemma of its function's name ends in _lem
 LEMMAS = {
     "crates/path/proofs/ValidNames.antt": ("all_valid",),
-    "crates/history/proofs/Holds.antt": ("name_in",),
+    "crates/history/proofs/Holds.antt": ("name_in", "slots-stand"),
     "crates/history/proofs/LastName.antt": ("at_last", "last_name"),
     "crates/history/proofs/BytesStep.antt": ("at_last",),
     "crates/history/proofs/RemoveStep.antt": ("at_last",),
@@ -48,6 +52,13 @@ def files(top, endings):
                 yield os.path.join(folder, n)
 
 
+def turn(line, names, prose):
+    """A line, its words turned; in prose "well-formed" is a plain word."""
+    code, mark, rest = line.partition(prose) if prose else ("", "", line)
+    plain = {**names, "well-formed": "well-formed"}
+    return WORD.sub(lambda m: names.get(m.group(0), m.group(0)), code) + mark + WORD.sub(lambda m: plain.get(m.group(0), m.group(0)), rest)
+
+
 def main():
     declared = set()
     functions = set()
@@ -74,8 +85,14 @@ def main():
                 m = re.match(r"use (?!Rattle\.)[^{]*\{([^}]*)\}", line)
                 for w in m.group(1).split(",") if m else ():
                     turned.pop(w.strip(), None)
-    for old in [w for w, s in turned.items() if "-" in w and s in declared]:
-        turned.pop(old)
+    # a lemma that would have its definition's name ends in _lem; a field of a record may have it
+    spelt = {}
+    for w in declared:
+        spelt.setdefault(turned.get(w, w), []).append(w)
+    for new, olds in spelt.items():
+        for w in olds:
+            if len(olds) > 1 and "-" in w and w not in FIELDS:
+                turned[w] = NAMED.get(w, new + "_lem")
     for old, new in sorted(turned.items()):
         if new in declared:
             print(f"falls together: {old} with {new}")
@@ -89,8 +106,9 @@ def main():
         with open(p, encoding="utf-8") as f:
             text = f.read()
         names = turned if p.endswith((".antt", ".rt")) else {**earlier, **turned}
-        names = {**names, **{w: w + "_lem" for w in LEMMAS.get(p, ())}}
-        new = WORD.sub(lambda m: names.get(m.group(0), m.group(0)), text)
+        names = {**names, **{w: w.replace("-", "_") + "_lem" for w in LEMMAS.get(p, ())}}
+        prose = "//" if p.endswith(".rt") else "--" if p.endswith(".antt") else "#" if p.endswith(".edit") else ""
+        new = "\n".join(turn(line, names, prose) for line in text.split("\n"))
         if new != text:
             with open(p, "w", encoding="utf-8") as f:
                 f.write(new)

@@ -10,7 +10,7 @@ use borrow.Author.Tests.{eq-eqb, le-ltb, lt-ltb, ne_eqb}
 use Rattle.storage.proofs.Numbers.{AllBytes}
 use Rattle.tree.specs.Marks.{Judges}
 use Rattle.tree.specs.Verdict.{BlockRule, Verdict, rule3, rule4, rule5, rule6, rule7, verdict, well_formed}
-use Rattle.tree.specs.WellFormed.{Judged, breaks, breaks_1, breaks_2, breaks_8, number, well_formed}
+use Rattle.tree.specs.WellFormed.{Judged, breaks, breaks_1, breaks_2, breaks_8, number, is_well_formed}
 use Rattle.tree.proofs.Verdicts.{judged}
 use Rattle.calls.specs.declared.refusal.Refusal.{Refusal}
 use Rattle.calls.specs.declared.refusal.Refusal.TheVariants.{Accepted, For}
@@ -20,7 +20,7 @@ use Rattle.calls.specs.Refusal.{accepted, broken, check, check_marked, number_of
 
 -- there are eight rules
 pub judged_low : {s : List ℕ} {v : Verdict} → Judged s v → v.rule ≤ 8
-judged_low (well_formed w) = omega arith
+judged_low (is_well_formed w) = omega arith
 judged_low (breaks_1 n b) = omega arith
 judged_low (breaks_2 t n) = omega arith
 judged_low (breaks n t a k b) = low n

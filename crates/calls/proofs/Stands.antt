@@ -1,4 +1,4 @@
--- An object of a well_formed image stands at its ref, as the layer below reads it.
+-- An object of a well-formed image stands at its ref, as the layer below reads it.
 use Prim.Native.Nat.{◌<◌, ℕ}
 use mathlib.Core.Bool.{Bool, ◌||◌, false, true}
 use mathlib.Core.List.{List}

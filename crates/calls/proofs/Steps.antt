@@ -153,8 +153,8 @@ module _ (s path : List ℕ) (allowed : Bool) where
 
 -- r is what was looked for first, and n its number
 module _ {r : Refusal} (m : Refusal) (x : Start) (e : r ≡ m) {n : ℕ} (f : n ≡ number_of r) where
-  pub or_refused : (n ≡ 0 → ⊥) → refused r ≡ or_refused m x
-  or_refused z = ap refused e ∙ sym (ap (λ (t : Bool). cond t x (refused m)) (ne_eqb (number_of m) 0 (λ q. z (f ∙ ap number_of e ∙ q))))
+  pub or_refused_lem : (n ≡ 0 → ⊥) → refused r ≡ or_refused m x
+  or_refused_lem z = ap refused e ∙ sym (ap (λ (t : Bool). cond t x (refused m)) (ne_eqb (number_of m) 0 (λ q. z (f ∙ ap number_of e ∙ q))))
 
   pub or_passed : n ≡ 0 → x ≡ or_refused m x
   or_passed z = sym (ap (λ (t : Bool). cond t x (refused m)) (eq-eqb (number_of m) 0 (ap number_of (sym e) ∙ sym f ∙ z)))
@@ -208,7 +208,7 @@ start-object {s} h path allowed r f =
 module _ (s path : List ℕ) (allowed : Bool) (top : Reason) {b : Refusal} (o : b ≡ opening s path allowed) {n : ℕ} (f : n ≡ number_of b) where
   pub above-first : (n ≡ 0 → ⊥) → refused b ≡ start_above s path allowed top
   unfolding start_above
-  above-first z = or_refused (opening s path allowed) (above_last s top (components path)) o f z
+  above-first z = or_refused_lem (opening s path allowed) (above_last s top (components path)) o f z
 
   module _ (z : n ≡ 0) where
     passed : {x : Start} → x ≡ above_last s top (components path) → x ≡ start_above s path allowed top

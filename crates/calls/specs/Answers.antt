@@ -44,17 +44,17 @@ kind_is (Directory taken total) = directory taken total
 abbrev pub found_of : declared-found.Found → Found
 found_of f = record { refusal = f.refusal; at = f.at.0; kind = kind_is f.kind }
 
--- a file or directory of a well_formed image, at ref r
+-- a file or directory of a well-formed image, at ref r
 pub record ObjectAt (s : List ℕ) (r : ℕ) : Type 0 where
   pub formed : well_formed s ≡ true
   pub kind : (is_file (block_in s r) || is_dir (block_in s r)) ≡ true
 
--- a directory of a well_formed image
+-- a directory of a well-formed image
 pub record DirectoryIn (s : List ℕ) (r : ℕ) : Type 0 where
   pub formed : well_formed s ≡ true
   pub kind : is_dir (block_in s r) ≡ true
 
--- a file of a well_formed image
+-- a file of a well-formed image
 pub record FileIn (s : List ℕ) (r : ℕ) : Type 0 where
   pub formed : well_formed s ≡ true
   pub kind : is_file (block_in s r) ≡ true

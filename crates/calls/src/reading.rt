@@ -14,13 +14,13 @@ use storage::{Pos, Ref};
 use tree::fields;
 
 // A file with its size and room, or a directory with its taken and total slots.
-#[derive(Drop)]
+#[derive(Clone, Copy)]
 pub enum Kind {
     File { size: u64, room: u64 },
     Directory { taken: u64, total: u64 },
 }
 
-#[derive(Drop)]
+#[derive(Clone, Copy)]
 pub struct Found {
     pub refusal: Refusal,
     pub at: Ref,
@@ -60,7 +60,7 @@ pub fn find(image: &[u8], path: &[u8]) -> Found
     }
 }
 
-#[derive(Drop)]
+#[derive(Clone, Copy)]
 pub struct ReadCount {
     pub refusal: Refusal,
     pub count: u64,
@@ -104,7 +104,7 @@ pub fn read(image: &[u8], path: &[u8], position: u64, buffer: &mut [u8]) -> Read
     }
 }
 
-#[derive(Drop)]
+#[derive(Clone, Copy)]
 pub struct Point {
     pub refusal: Refusal,
     pub bytes: [u8; 16],

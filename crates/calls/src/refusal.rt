@@ -6,7 +6,7 @@ ghost use Rattle.calls.specs.Refusal.{reason_number, number_of, place_of};
 use storage::Ref;
 
 // The refusals of an image that is well formed, and of format.
-#[derive(Drop)]
+#[derive(Clone, Copy)]
 pub enum Reason {
     BadLength,
     BadPath,
@@ -26,7 +26,7 @@ pub enum Reason {
 }
 
 // A call is accepted, or the image breaks a rule (the number, 21 to 28, and the first block that breaks it), or it is refused for another reason.
-#[derive(Drop)]
+#[derive(Clone, Copy)]
 pub enum Refusal {
     Accepted,
     Broken(u8, Ref),

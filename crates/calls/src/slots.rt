@@ -12,7 +12,7 @@ use storage::Ref;
 use tree::fields;
 
 // Whether there is such a slot, and which.
-#[derive(Drop)]
+#[derive(Clone, Copy)]
 pub enum Index {
     Nowhere,
     At(usize),

@@ -16,7 +16,7 @@ use storage::Ref;
 use tree::fields;
 
 // Where one step comes to: the child, no such component, or a file in the way.
-#[derive(Drop)]
+#[derive(Clone, Copy)]
 pub enum Step {
     Child(Ref),
     Missing,
@@ -49,7 +49,7 @@ fn take_step(image: &[u8], r: Ref, name: &[u8]) -> Step
 }
 
 // How a call begins: refused, or the ref that the path names.
-#[derive(Drop)]
+#[derive(Clone, Copy)]
 pub enum Start {
     Refused(Refusal),
     Reached(Ref),

@@ -173,8 +173,8 @@ module _ {s : List ℕ} (h : AllBytes s) {d i : ℕ} {w : List ℕ} {new : New} 
         filled_open = store_other (after-name object_open) 0 (parent_field new d) (parent-fits new d) e2 (after-name directory_open)
 
         -- the slot's
-        pub fill_slot : Holds t2 d × (24 + 16 * i ≤ size_at t2 d)
-        fill_slot = let k = store_at filled_open (8 + 16 * i) 16 (omega (arith, v.slot)) in (k.0, omega (arith, k.1))
+        pub fill_slot_lem : Holds t2 d × (24 + 16 * i ≤ size_at t2 d)
+        fill_slot_lem = let k = store_at filled_open (8 + 16 * i) 16 (omega (arith, v.slot)) in (k.0, omega (arith, k.1))
 
         pub fill_done : {t3 : List ℕ} → t3 ≡ after_update d (8 + 16 * i) (be64 n ++ be64 o) t2 → Makes (fill_slot s new w d i) Accepted o t3
         fill_done {t3} e3 =

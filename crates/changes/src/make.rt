@@ -17,7 +17,7 @@ use calls::{slots, walk};
 use storage::{Pos, Ref};
 use tree::fields;
 
-#[derive(Drop)]
+#[derive(Clone, Copy)]
 pub struct Made {
     pub refusal: Refusal,
     pub at: Ref,
@@ -33,7 +33,7 @@ fn unmade(refusal: Refusal) -> Made
 }
 
 // What is to be made: a directory with so many slots, or a file with so much room.
-#[derive(Drop)]
+#[derive(Clone, Copy)]
 pub enum New {
     Directory(u64),
     File(u64),

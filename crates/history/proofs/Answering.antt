@@ -12,7 +12,7 @@ use Rattle.calls.specs.declared.refusal.Reason.TheVariants.{OutOfBounds}
 use Rattle.calls.specs.declared.refusal.Refusal.TheVariants.{Accepted, For}
 use Rattle.calls.specs.Reading.{Found, block_in, copied, find, found_at, kind_of, point_at, read, read_at, read_point}
 use Rattle.calls.specs.Walk.{Walk, at, opening, reached, refused, start, walk_from, walked}
-use Rattle.calls.proofs.Steps.{opening-bounds, opening_none, or_passed, or_refused}
+use Rattle.calls.proofs.Steps.{opening-bounds, opening_none, or_passed, or_refused_lem}
 use Rattle.history.specs.Listing.{Line}
 use Rattle.history.specs.Book.{Tree}
 use Rattle.history.specs.Claim.{Entry, Shows, point_on}
@@ -44,7 +44,7 @@ module _ {n : ℕ} {s : List ℕ} {t : Tree} (g : Good n s t) where
     begins_not : (allowed : Bool) → allowed ≡ false → start s p allowed ≡ refused (For OutOfBounds)
     unfolding start
     begins_not allowed a =
-        sym (or_refused (opening s p allowed) (walk_from s (components p)) (opening-bounds s p allowed (good_formed n s t g) (way_valid w) a)
+        sym (or_refused_lem (opening s p allowed) (walk_from s (components p)) (opening-bounds s p allowed (good_formed n s t g) (way_valid w) a)
         refl (λ z. omega arith))
 
     -- ---- find

@@ -1,4 +1,4 @@
--- Demand 3: every history of calls, from any well_formed image and from an accepted format.
+-- Demand 3: every history of calls, from any well-formed image and from an accepted format.
 use Prim.Native.Nat.{ℕ}
 use mathlib.Core.Bool.{true}
 use mathlib.Core.List.{List}
@@ -29,7 +29,7 @@ follows s a h =
       claim = subst (Claim a.image) (sym e) (claim (length s) a.image h.0 g);
     }
 
--- every history from any well_formed image, with its tree as the book
+-- every history from any well-formed image, with its tree as the book
 pub every_history : EveryHistory
 unfolding EveryHistory
 every_history s b e cs = follows s (history (record { image = s; book = some (tree_of s) }) cs) (kept_all (length s) s (tree_of s) cs (good s b e))
@@ -40,7 +40,7 @@ unfolding FromFormat
 from_format s k e cs =
     follows s (history (record { image = (format s k).image; book = some (empty_slots k) }) cs) (kept_all (length s) (format s k).image (empty_slots k) cs (formatted_good s k e))
 
--- every call, accepted or refused, leaves a well_formed image well formed, and as long as it was
+-- every call, accepted or refused, leaves a well-formed image well formed, and as long as it was
 pub call_formed : (s : List ℕ) → Bytes s → well_formed s ≡ true → (c : Call) → (well_formed (step s c).image ≡ true) × (length (step s c).image ≡ length s)
 call_formed s b e c =
     let h = kept (length s) s (tree_of s) c (good s b e) in

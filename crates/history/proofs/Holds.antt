@@ -20,7 +20,7 @@ use Rattle.history.proofs.Good.{Good}
 use Rattle.history.proofs.Naming.{naming_kept}
 use Rattle.history.proofs.Nodes.{Among, Node, Rep, Stands, dir, empty, end, file, named, slots_of}
 use Rattle.history.proofs.Tested.{Nothing, all_good, dir_no_file, dir_no_name, file_no_name, name_no_dir, name_no_file}
-use Rattle.history.proofs.Walks.{among_top, file-there, name-there, of_dir, rest_of, root-there, row-of, taken_some}
+use Rattle.history.proofs.Walks.{among_top, file-there, name-there, of_dir, rest_of, root-there, row_of_lem, taken_some}
 
 module _ {os : Objects} {root : ℕ} {rb : Block} {top : Node} (q : Rep os root rb top) where
   -- ---- rule 2
@@ -32,11 +32,11 @@ module _ {os : Objects} {root : ℕ} {rb : Block} {top : Node} (q : Rep os root 
   -- ---- rule 3
 
   -- the slots of a row stand
-  slots_stand : (up : ℕ) (c : Node) → Stands up c → Among os c → slots_stand os (slots_of c) ≡ true
+  slots_stand_lem : (up : ℕ) (c : Node) → Stands up c → Among os c → slots_stand os (slots_of c) ≡ true
   unfolding slots_stand
-  slots_stand up end s h = refl
-  slots_stand up (empty t) s h = slots_stand up t s h
-  slots_stand up (file n r a b t) s h =
+  slots_stand_lem up end s h = refl
+  slots_stand_lem up (empty t) s h = slots_stand_lem up t s h
+  slots_stand_lem up (file n r a b t) s h =
       rw (
         ne_eqb n 0 (λ e. omega (arith, s.0.some)),
         ne_eqb r 0 (λ e. omega (arith, s.1.some)),
@@ -45,8 +45,8 @@ module _ {os : Objects} {root : ℕ} {rb : Block} {top : Node} (q : Rep os root 
         s.0.is_name,
         s.1.is_file,
       )
-      (slots_stand up t s.3 (rest_of os q.once n r a b t h))
-  slots_stand up (dir n r a b c t) s h =
+      (slots_stand_lem up t s.3 (rest_of os q.once n r a b t h))
+  slots_stand_lem up (dir n r a b c t) s h =
       let k = of_dir os q.once n r a b c t h in
       rw (
         ne_eqb n 0 (λ e. omega (arith, s.0.some)),
@@ -57,7 +57,7 @@ module _ {os : Objects} {root : ℕ} {rb : Block} {top : Node} (q : Rep os root 
         dir_no_file b s.1.is_dir,
         s.1.is_dir,
       )
-      (slots_stand up t s.4 (rest_of os q.once n r a b t k))
+      (slots_stand_lem up t s.4 (rest_of os q.once n r a b t k))
 
   slots_kept : breaker_of rule3 os root ≡ none
   unfolding slots_stand
@@ -66,8 +66,8 @@ module _ {os : Objects} {root : ℕ} {rb : Block} {top : Node} (q : Rep os root 
       (λ n a i h. rw (slots-other a (name_no_dir a h.is_name)))
       (λ r b i h. rw (slots-other b (file_no_dir b h.is_file)))
       (λ up t k. tt) (λ up n r a b t k. tt) (λ up n r a b c t k. tt)
-      (λ up n r a b c t i s h k. (rw s.1.slots (slots_stand r c s.3 (row-of os q.once n r a b c t h)), tt))
-      root rb top q (rw q.top.slots (slots_stand root top q.row (among_top os root rb top q))) tt
+      (λ up n r a b c t i s h k. (rw s.1.slots (slots_stand_lem r c s.3 (row_of_lem os q.once n r a b c t h)), tt))
+      root rb top q (rw q.top.slots (slots_stand_lem root top q.row (among_top os root rb top q))) tt
 
   -- ---- rule 6
 
@@ -105,7 +105,7 @@ module _ {os : Objects} {root : ℕ} {rb : Block} {top : Node} (q : Rep os root 
       (λ r b i h. rw (file_no_name b h.is_file, slots-other b (file_no_dir b h.is_file)))
       (λ up t k. tt) (λ up n r a b t k. tt) (λ up n r a b c t k. tt)
       (λ up n r a b c t i s h k.
-      (rw (dir_no_name b s.1.is_dir, s.1.slots) (all_distinct r c s.3 (row-of os q.once n r a b c t h)), tt))
+      (rw (dir_no_name b s.1.is_dir, s.1.slots) (all_distinct r c s.3 (row_of_lem os q.once n r a b c t h)), tt))
       root rb top q
       (rw (dir_no_name rb q.top.is_dir, q.top.slots) (all_distinct root top q.row (among_top os root rb top q))) tt
 

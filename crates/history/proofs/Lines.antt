@@ -15,7 +15,7 @@ use Rattle.history.specs.Listing.{Line, line_of, object_lines, slot_lines}
 use Rattle.history.specs.Bench.{line}
 use Rattle.history.proofs.Nodes.{Among, DirNode, Node, Rep, Stands, dir, empty, end, file, height, slots_of}
 use Rattle.history.proofs.Sums.{times}
-use Rattle.history.proofs.Walks.{among_top, file-there, of_dir, rest_of, root-there, row-of, taken_some}
+use Rattle.history.proofs.Walks.{among_top, file-there, of_dir, rest_of, root-there, row_of_lem, taken_some}
 
 -- ---- the lines of a small tree, computed: a directory with a file, an empty slot, and a directory that holds a file
 
@@ -85,7 +85,7 @@ module _ (os : Objects) (once : (r : ℕ) → times r os ≤ 1) where
       (ap (λ (x : List Line). line_of r up n d b ∷ x) (row-lines k up d ih t s.3 (rest_of os once n r a b t h) (omega arith)))
   row-lines k up d ih (dir n r a b c t) s h l =
       let h' = of_dir os once n r a b c t h in
-      let i = ih r n b c (file-there os once n r a b t h') s.1 s.3 (row-of os once n r a b c t h) (omega arith) in
+      let i = ih r n b c (file-there os once n r a b t h') s.1 s.3 (row_of_lem os once n r a b c t h) (omega arith) in
       rw (taken_some n r s.1.some, i)
       (ap (λ (x : List Line). line_of r up n d b ∷ (row_lines r (suc d) c ++ x))
       (row-lines k up d ih t s.4 (rest_of os once n r a b t h') (omega arith)))

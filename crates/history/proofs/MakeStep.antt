@@ -121,9 +121,9 @@ module _ {n : ℕ} {s : List ℕ} {t : Tree} (g : Good n s t) (new : New) (bound
       go (some x) q = filled i ie nw x (paired chooses_tightest (new_name w) (new_block new d) (volume_of s).extents x q)
 
   -- refused, or the lowest empty slot
-  make_in : AnsweredMade n t after (make_in s new w d)
+  make_in_lem : AnsweredMade n t after (make_in s new w d)
   unfolding make_in
-  make_in = by_name (slot_named (objects (volume_of s)) (block_in s d) w) refl
+  make_in_lem = by_name (slot_named (objects (volume_of s)) (block_in s d) w) refl
     where
       among : Among (objects (volume_of s)) c
       among f = omega (arith, sought_weight g ws (a_dir d (block_in s d) c) e f)
@@ -150,4 +150,4 @@ make-kept {n} {s} {t} g path new =
     (λ d h v a w ws c e k.
     let y = reached-directory g (all_but_last (w ∷ ws)) d e k in
     subst (λ (t' : Option Tree). AnsweredMade n t t' (make_in s new (last_name path) d)) (sym (at_last_lem path w ws c (λ w. added w new) t))
-    (make_in g new a (last_name path) (last_name_lem path w ws c v) (all_but_last (w ∷ ws)) (before-few path w ws c v) d y.0 y.1))
+    (make_in_lem g new a (last_name path) (last_name_lem path w ws c v) (all_but_last (w ∷ ws)) (before-few path w ws c v) d y.0 y.1))

@@ -59,9 +59,9 @@ module _ (d k : ℕ) where
 
 -- ---- a new file: it stands, with its room and no bytes
 
-pub new_file : (r m : ℕ) → 0 < r → FileNode r (new_file m) × (room (new_file m) ≡ m) × (content (new_file m) ≡ [])
+pub new_file_lem : (r m : ℕ) → 0 < r → FileNode r (new_file m) × (room (new_file m) ≡ m) × (content (new_file m) ≡ [])
 unfolding content
-new_file r m h =
+new_file_lem r m h =
     let l : length (new_file m).body ≡ 16 + m = length-zeroed (16 + m) in
     let z : file_size (new_file m) ≡ 0 = zero_read (16 + m) 0 (omega arith) in (
       record { some = h; is_file = refl; fits = omega arith; reserved = zero_read (16 + m) 8 (omega arith); whole = omega arith },
@@ -78,7 +78,7 @@ NewNode (New.file m) up o b = FileNode o b × (room b ≡ m) × (content b ≡ [
 
 pub new_node : (k : New) (d o : ℕ) → d < 18446744073709551616 → 0 < o → NewNode k d o (new_block k d)
 new_node (directory k) d o h p = record { some = p; is_dir = refl; parent = new_parent d k h; slots = new_slots d k }
-new_node (New.file m) d o h p = new_file o m p
+new_node (New.file m) d o h p = new_file_lem o m p
 
 -- ---- they are sound
 

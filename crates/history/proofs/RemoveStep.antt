@@ -109,9 +109,9 @@ module _ {n : ℕ} {s : List ℕ} {t : Tree} (g : Good n s t) (w : List ℕ)
         (edited y g.rep ws e (λ f. omega (arith, m.sums f, o.sums f, bare z f)) (refs_once _) (omega (arith, o.low, seen.2, g.rep.low))))
 
   -- refused, or gone
-  remove_in : AnsweredBy n t after (remove_in s w d)
+  remove_in_lem : AnsweredBy n t after (remove_in s w d)
   unfolding remove_in
-  remove_in = by_name (slot_named (objects (volume_of s)) (block_in s d) w) refl
+  remove_in_lem = by_name (slot_named (objects (volume_of s)) (block_in s d) w) refl
     where
       by_count : (i : ℕ) → Out w d c i → (q : Bool) → eqb (taken_count (slots (block_in s (slot_at (block_in s d) i).1))) 0 ≡ q
           → AnsweredBy n t after (elim q [ false ↦ unchanged (For NotEmpty) s | true ↦ done (removed s d i) ])
@@ -138,4 +138,4 @@ remove-kept {n} {s} {t} g path =
     (λ d h v a w ws c e k.
     let y = reached-directory g (all_but_last (w ∷ ws)) d e k in
     subst (λ (t' : Option Tree). AnsweredBy n t t' (remove_in s (last_name path) d)) (sym (at_last_lem path w ws c (λ w. emptied w) t))
-    (remove_in g (last_name path) (all_but_last (w ∷ ws)) d y.0 y.1))
+    (remove_in_lem g (last_name path) (all_but_last (w ∷ ws)) d y.0 y.1))

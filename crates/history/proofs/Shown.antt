@@ -23,7 +23,7 @@ use Rattle.history.proofs.Lines.{root-lines, row_lines}
 use Rattle.history.proofs.Nodes.{Among, Node, Rep, Stands, at_file, book_of, child_at, dir, empty, end, file, height, named, seek, walk_of}
 use Rattle.history.proofs.Paths.{Way, here_last, way_last, way_root}
 use Rattle.history.proofs.Sums.{times}
-use Rattle.history.proofs.Walks.{among_top, file-there, name-there, of_dir, rest_of, row-of}
+use Rattle.history.proofs.Walks.{among_top, file-there, name-there, of_dir, rest_of, row_of_lem}
 
 -- two pairs of lists
 each_append : {A B : Type 0} {R : A → B → Type 0} {xs us : List A} {ys vs : List B} → Each R xs ys
@@ -187,7 +187,7 @@ module _ (os : Objects) (once : (r : ℕ) → times r os ≤ 1) (root : ℕ) (rb
   rows_match up d pre here above (dir n r a b c t) s h l w =
       both (dir_match up d pre here above n r a b c t s h (omega arith) w)
       (each_append
-      (rows_match r (suc d) (pre ++ (a.body ∷ [])) _ _ c s.3 (row-of os once n r a b c t h)
+      (rows_match r (suc d) (pre ++ (a.body ∷ [])) _ _ c s.3 (row_of_lem os once n r a b c t h)
       (omega (arith, length-append pre (a.body ∷ [])))
       (below up pre here above n r a b c t s.0.valid (omega arith) w))
       (rows_match up d pre here above t s.4 (rest_of os once n r a b t (of_dir os once n r a b c t h)) (omega arith)

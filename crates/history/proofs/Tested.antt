@@ -12,7 +12,7 @@ use Rattle.tree.specs.Fields.{is_dir, is_file, is_name}
 use Rattle.tree.specs.Verdict.{breaker}
 use Rattle.history.proofs.Nodes.{Among, FileNode, NameNode, Node, Rep, Stands, dir, empty, end, file, sum_of}
 use Rattle.history.proofs.Sums.{Item, here, sum, times}
-use Rattle.history.proofs.Walks.{among_top, of_dir, rest_of, row-of}
+use Rattle.history.proofs.Walks.{among_top, of_dir, rest_of, row_of_lem}
 
 -- ---- kinds exclude each other
 
@@ -89,7 +89,7 @@ module _ (os : Objects) (once : (r : ℕ) → times r os ≤ 1) (p : ℕ → Blo
         arith,
         bad_none p n a (onName n a (omega (arith, h (here n), here_self n a)) s.0),
         bad_none p r b d.0,
-        row_good r c s.3 (row-of os once n r a b c t h) d.1,
+        row_good r c s.3 (row_of_lem os once n r a b c t h) d.1,
         row_good up t s.4 (rest_of os once n r a b t (of_dir os once n r a b c t h)) (pastDir up n r a b c t k),
       )
 

@@ -1,4 +1,4 @@
--- Every well_formed image holds one tree, and tree_of is its book.
+-- Every well-formed image holds one tree, and tree_of is its book.
 use Prim.Native.Nat.{◌≤◌, suc, zero, ℕ}
 use mathlib.Core.Bool.{Bool, false, true}
 use mathlib.Core.List.{List, [], ◌∷◌}
@@ -58,7 +58,7 @@ book_of : (s : List ℕ) → book_of (row_at (objects (volume_of s)) 17 (volume_
 unfolding tree_of
 book_of s = book-at (objects (volume_of s)) 17 (volume_of s).root
 
--- ---- a well_formed image holds its tree
+-- ---- a well-formed image holds its tree
 
 rises : (s : List ℕ) → Rises 2 (objects (volume_of s))
 unfolding objects

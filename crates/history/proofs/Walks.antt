@@ -83,8 +83,8 @@ module _ (os : Objects) (once : (r : ℕ) → times r os ≤ 1) where
   pub rest_of : (n r : ℕ) (a b : Block) (t : Node) → Among os (file n r a b t) → Among os t
   rest_of n r a b t h f = omega (arith, h f)
 
-  pub row-of : (n r : ℕ) (a b : Block) (c t : Node) → Among os (dir n r a b c t) → Among os c
-  row-of n r a b c t h f = omega (arith, h f)
+  pub row_of_lem : (n r : ℕ) (a b : Block) (c t : Node) → Among os (dir n r a b c t) → Among os c
+  row_of_lem n r a b c t h f = omega (arith, h f)
 
   -- ---- the slot with a name
 
@@ -153,7 +153,7 @@ module _ (os : Objects) (once : (r : ℕ) → times r os ≤ 1) where
   walk-child w ws up ih (dir n r a b c t) s h =
       let k = of_dir n r a b c t h in
       choice (λ (o : Option ℕ). further ws (child_of ((n, r) ∷ slots_of t) o)) walk_of (same a.body w) _ _ _ _
-      (ih r b c (file-there n r a b t k) s.1 s.3 (row-of n r a b c t h))
+      (ih r b c (file-there n r a b t k) s.1 s.3 (row_of_lem n r a b c t h))
       (ap (further ws) (child-onward (slots_of t) (n, r) (index_named w t)) ∙ walk-child w ws up ih t s.4 (rest_of n r a b t k))
 
   -- from a directory along components

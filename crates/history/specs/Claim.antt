@@ -146,7 +146,7 @@ pub record Follows (s : List ℕ) (a : After) : Type 0 where
 abbrev pub Bytes : List ℕ → Type 0
 Bytes s = (i : ℕ) → get_or s i 0 < 256
 
--- every history from any well_formed image, with its tree as the book
+-- every history from any well-formed image, with its tree as the book
 unfoldable pub EveryHistory : Type 0
 EveryHistory =
     (s : List ℕ) → Bytes s → well_formed s ≡ true → (cs : List Call) → Follows s (history (record { image = s; book = some (tree_of s) }) cs)

@@ -1,5 +1,7 @@
 // The listing of the card that standard input holds.
 
+#![tactic(auto)]
+
 fn main() {
     lister::run();
 }

@@ -35,7 +35,7 @@ fn with_name(mut names: [Ref; 17], l: Line) -> [Ref; 17] {
 }
 
 // Where the listing goes on, and the name refs of the last line.
-#[derive(Drop)]
+#[derive(Clone, Copy)]
 struct Place {
     cursor: Cursor,
     names: [Ref; 17],

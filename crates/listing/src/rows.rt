@@ -16,14 +16,14 @@ use calls::refusal::{Reason, Refusal};
 use storage::Ref;
 
 // The refusal, and how many lines the image has.
-#[derive(Drop)]
+#[derive(Clone, Copy)]
 pub struct Listed {
     pub refusal: Refusal,
     pub count: u64,
 }
 
 // A line, and where the listing goes on.
-#[derive(Drop)]
+#[derive(Clone, Copy)]
 pub struct Told {
     pub line: Line,
     pub cursor: Cursor,

@@ -15,7 +15,7 @@ fn forbidden_byte(b: u8) -> bool
 }
 
 // What is to come of a character: so many followers, the next one from `low` to `high`.
-#[derive(Drop)]
+#[derive(Clone, Copy)]
 struct Awaited {
     left: u8,
     low: u8,

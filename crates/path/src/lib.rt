@@ -1,5 +1,7 @@
 // Names and paths, on byte slices.
 
+#![tactic(auto)]
+
 mod characters;
 
 ghost use Rattle.std.specs.Prelude.{◌≡◌, [], ◌≤◌, length, get_or};
@@ -89,7 +91,7 @@ fn end_of(path: &[u8], begin: usize) -> usize
 }
 
 // The bytes from `begin` up to `end`.
-#[derive(Drop)]
+#[derive(Clone, Copy)]
 struct Span {
     begin: usize,
     end: usize,

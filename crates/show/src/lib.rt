@@ -1,5 +1,7 @@
 // What the programs share: an image written as words, and lines of text.
 
+#![tactic(auto)]
+
 ghost use Rattle.std.specs.Prelude.{◌≡◌};
 ghost use Rattle.show.specs.Words.{spread_over};
 

@@ -1,5 +1,7 @@
 // The bench's cases of document 01, in its order, marked or not: the calls on images held here, a line to a call and to a part of an image.
 
+#![tactic(auto)]
+
 ghost use Rattle.std.specs.Prelude.{◌<◌};
 
 use storage::{Offset, Ref};

@@ -1,5 +1,7 @@
 // The cards that its arguments name, each as the listing program prints it; and the listing into a row that is lent.
 
+#![tactic(auto)]
+
 mod rows;
 
 use show::say;

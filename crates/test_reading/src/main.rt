@@ -1,5 +1,7 @@
 // The calls that change nothing, on images held here: what each answers, a line to a call.
 
+#![tactic(auto)]
+
 use calls::reading;
 use libc::STDOUT_FILENO;
 use show::{say, say_kind, say_number, say_path, say_refusal, spread};

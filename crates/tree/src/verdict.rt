@@ -18,7 +18,7 @@ use alloc::{block, marks};
 use storage::Ref;
 
 // The rules that are looked at block by block.
-#[derive(Drop)]
+#[derive(Clone, Copy)]
 pub enum Rule {
     Slots,
     Naming,
@@ -28,7 +28,7 @@ pub enum Rule {
 }
 
 // The first block that breaks a rule.
-#[derive(Drop)]
+#[derive(Clone, Copy)]
 pub enum Breach {
     Nowhere,
     At(Ref),
@@ -81,7 +81,7 @@ fn first_breaker(image: &[u8], marks: &[u8], rule: Rule, root: Ref) -> Breach
 }
 
 // The lowest-numbered broken rule, 0 where none is, and its place.
-#[derive(Drop)]
+#[derive(Clone, Copy)]
 pub struct Verdict {
     pub rule: u8,
     pub place: Ref,

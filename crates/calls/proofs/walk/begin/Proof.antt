@@ -3,7 +3,7 @@ use Rattle.calls.proofs.walk.begin.Tie as tie
 use mathlib.Core.Path.{◌∙◌}
 use borrow.Author.Rules.{rules}
 use Rattle.calls.specs.Walk.{start}
-use Rattle.calls.proofs.Steps.{opened_formed, or_passed, or_refused}
+use Rattle.calls.proofs.Steps.{opened_formed, or_passed, or_refused_lem}
 use Rattle.calls.proofs.walk.begin.Statement.{statement}
 
 opening-requires : tie.Need-opening-requires
@@ -14,7 +14,7 @@ number-requires c κs = search rules
 
 returns : tie.Need-returns
 unfolding start
-returns c = or_refused _ _ c.before.before.opening.ensures c.before.number.ensures c.if1.true
+returns c = or_refused_lem _ _ c.before.before.opening.ensures c.before.number.ensures c.if1.true
 
 walk-from-requires : tie.Need-walk-from-requires
 walk-from-requires c κs = opened_formed _ _ _ c.before.before.opening.ensures c.before.number.ensures c.if1.false

@@ -5,7 +5,7 @@ use native.Mathlib.Omega.{arith}
 use borrow.Author.Rules.{rules}
 use Rattle.alloc.specs.Answers.{pair_at}
 use Rattle.changes.specs.Answers.{new_of}
-use Rattle.changes.proofs.Making.{fill_done, fill_name, fill_none, fill_object, fill_slot, name-object, new_object, object-told, pair_told, unmade-told, vacant-sound}
+use Rattle.changes.proofs.Making.{fill_done, fill_name, fill_none, fill_object, fill_slot_lem, name-object, new_object, object-told, pair_told, unmade-told, vacant-sound}
 use Rattle.changes.proofs.make.fill.Statement.{statement}
 
 cast-place : tie.Need-overflow-cast-place
@@ -44,7 +44,7 @@ write-parent-requires : tie.Need-write-parent-requires
 write-parent-requires c κs = fill_object (λ i. (c.before.before.before.before.before.before.before.before.before.before.before.before.before.before.before.slice-known.given i).fits) c.before.before.before.before.before.before.before.before.before.before.before.before.before.before.before.before.requires (pair_told c.before.before.before.before.before.before.before.before.before.before.before.before.magic-of.ensures c.before.before.before.before.before.before.before.before.before.before.before.type_size.ensures (ap pair_at c.before.before.before.before.before.before.placed.given.1) c.before.before.before.before.before.before.before.before.before.before.place.ensures) c.before.before.before.copy-in.ensures
 
 set-requires : tie.Need-set-requires
-set-requires c κs = fill_slot (λ i. (c.before.before.before.before.before.before.before.before.before.before.before.before.before.before.before.before.before.before.before.slice-known.given i).fits) c.before.before.before.before.before.before.before.before.before.before.before.before.before.before.before.before.before.before.before.before.requires (pair_told c.before.before.before.before.before.before.before.before.before.before.before.before.before.before.before.before.magic-of.ensures c.before.before.before.before.before.before.before.before.before.before.before.before.before.before.before.type_size.ensures (ap pair_at c.before.before.before.before.before.before.before.before.before.before.placed.given.1) c.before.before.before.before.before.before.before.before.before.before.before.before.before.before.place.ensures) c.before.before.before.before.before.before.before.copy-in.ensures c.before.before.before.write-parent.ensures
+set-requires c κs = fill_slot_lem (λ i. (c.before.before.before.before.before.before.before.before.before.before.before.before.before.before.before.before.before.before.before.slice-known.given i).fits) c.before.before.before.before.before.before.before.before.before.before.before.before.before.before.before.before.before.before.before.before.requires (pair_told c.before.before.before.before.before.before.before.before.before.before.before.before.before.before.before.before.magic-of.ensures c.before.before.before.before.before.before.before.before.before.before.before.before.before.before.before.type_size.ensures (ap pair_at c.before.before.before.before.before.before.before.before.before.before.placed.given.1) c.before.before.before.before.before.before.before.before.before.before.before.before.before.before.place.ensures) c.before.before.before.before.before.before.before.copy-in.ensures c.before.before.before.write-parent.ensures
 
 same-length-2 : tie.Need-same-length-2
 same-length-2 c = search rules

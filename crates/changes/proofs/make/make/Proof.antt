@@ -54,7 +54,7 @@ returns-2 c =
     c.before.before.before.before.before.before.before.before.before.allowed.ensures _
     (sym (ap start_of c.before.before.before.before.before.before.begun.given.1) ∙
     c.before.before.before.before.before.before.before.before.begin-above.ensures) _ c.before.before.before.last_name.ensures _ _ _
-    c.before.before.make_in.ensures
+    c.before.before.make_in_lem.ensures
 
 pub make_spec : {M : Type 1} → statement M
 make_spec =

@@ -41,7 +41,7 @@ returns-2 : tie.Need-returns-2
 returns-2 c =
     remove-reached _ _ _ (sym (ap start_of c.before.before.before.before.before.before.begun.given.1) ∙
     c.before.before.before.before.before.before.before.before.begin-above.ensures) _ c.before.before.before.last_name.ensures _ _
-    c.before.before.remove_in.ensures
+    c.before.before.remove_in_lem.ensures
 
 pub remove-spec : {M : Type 1} → statement M
 remove-spec =
