@@ -1,0 +1,11 @@
+-- equal_data: the second block's data as a part of the image.
+use Rattle.storage.specs.Bytes.{same}
+use borrow.Author.Rules.{rules}
+use mathlib.Core.Path.{ap, ◌∙◌}
+use Rattle.alloc.proofs.access.equal_data.Goals as goal
+
+pub equals-requires : goal.equals-requires
+equals-requires c = c.requires.0
+
+pub returns : goal.returns
+returns c = c.equals.ensures ∙ ap (same _) c.body.ensures

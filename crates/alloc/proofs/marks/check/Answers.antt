@@ -1,0 +1,93 @@
+use Prim.Native.Nat.{◌-◌}
+use Rattle.alloc.proofs.Marking.{MarksSoFar, marks-start, marks_on, blank-long, marking_length, marking_long, marking_broken, marking_whole}
+use Rattle.alloc.proofs.Tiles.{tiles_fits}
+use borrow.Author.Rules.{rules}
+use borrow.Author.Tests.{not-true, not-false}
+use lib.ListN.{length}
+use mathlib.Core.Path.{◌∙◌, sym, refl}
+use native.Mathlib.Omega.{arith}
+use Rattle.alloc.proofs.marks.check.Goals as goal
+
+pub length_allowed-requires : goal.length_allowed-requires
+length_allowed-requires c = omega arith
+
+pub shape_of-marks-then-not-length_allowed : goal.shape_of-marks-then-not-length_allowed
+shape_of-marks-then-not-length_allowed c = blank-long _ _ c.requires c.clear.ensures
+
+pub returns-then-not-length_allowed : goal.returns-then-not-length_allowed
+returns-then-not-length_allowed c =
+    marking_length _ _ c.requires c.clear.ensures
+    (sym c.length_allowed.ensures ∙ c.if-not-length_allowed.true)
+
+pub loop-at-init : goal.loop-at-init
+loop-at-init c = rw c.start-at.ensures (marks-start _ (sym c.length_allowed.ensures ∙ c.if-not-length_allowed.false))
+
+pub stands-requires : goal.stands-requires
+stands-requires c = omega (arith, c.loop-at.invariant.tiles.place)
+
+pub shape_of-marks-then-not-stands : goal.shape_of-marks-then-not-stands
+shape_of-marks-then-not-stands c =
+    marking_long c.loop-at.invariant _ c.requires
+    c.clear.ensures
+
+pub returns-then-not-stands : goal.returns-then-not-stands
+returns-then-not-stands c =
+    marking_broken c.loop-at.invariant _ c.requires
+    c.clear.ensures (omega arith) _ c.stands.ensures c.if-not-stands.true
+
+pub magic_at-requires : goal.magic_at-requires
+magic_at-requires c = omega (arith, tiles_fits c.loop-at.invariant.tiles (omega arith) _ c.stands.ensures c.if-not-stands.false)
+
+pub bounds-marks-n : goal.bounds-marks-n
+bounds-marks-n c =
+    omega (
+      arith,
+      tiles_fits c.loop-at.invariant.tiles (omega arith) _ c.stands.ensures
+          c.if-not-stands.false,
+      marking_long c.loop-at.invariant _
+          c.requires
+          c.clear.ensures,
+      c.requires,
+    )
+
+pub after-r-requires : goal.after-r-requires
+after-r-requires c =
+    omega (
+      arith,
+      tiles_fits c.loop-at.invariant.tiles (omega arith) _ c.stands.ensures
+          c.if-not-stands.false,
+    )
+
+pub start-at-requires-in-loop-at : goal.start-at-requires-in-loop-at
+start-at-requires-in-loop-at c =
+    omega (
+      arith,
+      tiles_fits c.loop-at.invariant.tiles (omega arith) _ c.stands.ensures
+          c.if-not-stands.false,
+      c.after-r.ensures,
+    )
+
+pub loop-at-smaller : goal.loop-at-smaller
+loop-at-smaller c =
+    omega (
+      arith,
+      c.loop-at.invariant.tiles,
+      tiles_fits c.loop-at.invariant.tiles
+          (omega arith) _ c.stands.ensures c.if-not-stands.false,
+    )
+
+pub loop-at-preserved : goal.loop-at-preserved
+loop-at-preserved c =
+    marks_on c.loop-at.invariant (omega arith) _ c.stands.ensures
+    c.if-not-stands.false _ _ _ refl c.magic_at.ensures c.mark_of.ensures _ _
+    c.after-r.ensures c.start-at-in-loop-at.ensures
+
+pub shape_of-marks : goal.shape_of-marks
+shape_of-marks c =
+    marking_long c.loop-at.invariant _ c.requires
+    c.clear.ensures
+
+pub returns : goal.returns
+returns c =
+    marking_whole c.loop-at.invariant _ c.requires
+    c.clear.ensures (omega arith)

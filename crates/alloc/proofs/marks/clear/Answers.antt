@@ -1,0 +1,11 @@
+-- clear: as many zeros as the image has units.
+use Prim.Native.Nat.{ℕ}
+use Rattle.storage.specs.Bytes.{splice, zeroed}
+use borrow.Author.Rules.{rules}
+use mathlib.Core.Path.{ap, ◌∙◌}
+use Rattle.alloc.proofs.marks.clear.Goals as goal
+
+pub returns : goal.returns
+returns c =
+    c.zero.ensures ∙ ap (λ (n : ℕ). splice c.args.marks.now 0 (zeroed n))
+    c.units_of.ensures
