@@ -93,7 +93,8 @@ fn make_b(rt: &impl Print) -> io::Result<()> {
     make_after(rt, b"/b", 41)?;
     make_after(rt, b"/b", 56)?;
     make_after(rt, b"/b", 57)?;
-    make_after(rt,
+    make_after(
+        rt,
         b"/0123456789abcdef0123456789abcdef0123456789abcdef0123456789abcdef",
         24,
     )
@@ -158,7 +159,8 @@ fn largest_points(rt: &impl Print) -> io::Result<()> {
 fn points_of_40(rt: &impl Print) -> io::Result<()> {
     let mut image = formatted();
     tell::make_file(rt, &mut image, b"/heel", 40)?;
-    tell::write(rt,
+    tell::write(
+        rt,
         &mut image,
         b"/heel",
         0,

@@ -98,7 +98,13 @@ pub fn remove(rt: &impl Print, image: &mut [u8], path: &[u8]) -> io::Result<()>
     end(rt, refusal)
 }
 
-pub fn write(rt: &impl Print, image: &mut [u8], path: &[u8], position: u64, bytes: &[u8]) -> io::Result<()>
+pub fn write(
+    rt: &impl Print,
+    image: &mut [u8],
+    path: &[u8],
+    position: u64,
+    bytes: &[u8],
+) -> io::Result<()>
     ensures { image.new ≡ (changing.write image.old path.now position bytes.now).image }
 {
     let refusal = changes::bytes::write(image, path, position, bytes);

@@ -13,17 +13,23 @@ pub fn undamaged(rt: &impl Print) -> io::Result<()> {
 
 // Rule 1: the kinds.
 pub fn kinds(rt: &impl Print) -> io::Result<()> {
-    show_card(rt,
+    show_card(
+        rt,
         b"a block of no kind",
         &[26, FREE + 24, 30, 0x53467878_00000008],
     )?;
-    show_card(rt, b"a second superblock", &[26, FREE + 8, 28, SUPERBLOCK + 16])
+    show_card(
+        rt,
+        b"a second superblock",
+        &[26, FREE + 8, 28, SUPERBLOCK + 16],
+    )
 }
 
 // Rule 1: the sizes.
 pub fn sizes(rt: &impl Print) -> io::Result<()> {
     show_one(rt, b"a superblock of size 24", 0, SUPERBLOCK + 24)?;
-    show_card(rt,
+    show_card(
+        rt,
         b"a directory without slots",
         &[2, 11, 20, DIRECTORY + 8, 22, FREE + 8, 23, 13],
     )?;
@@ -36,20 +42,23 @@ pub fn sizes(rt: &impl Print) -> io::Result<()> {
 // Rule 1: the limits of a size.
 pub fn limits(rt: &impl Print) -> io::Result<()> {
     show_words(rt, b"a name of 64 bytes", &cards::LONG_NAME, &[], 176)?;
-    show_words(rt,
+    show_words(
+        rt,
         b"a name of 65 bytes",
         &cards::LONG_NAME,
         &[8, NAME + 65, 17, 0x61000000_00000000],
         176,
     )?;
     show_words(rt, b"a room of 65536", &cards::LONG_FILE, &[], 65648)?;
-    show_words(rt,
+    show_words(
+        rt,
         b"a room of 65537",
         &cards::LONG_FILE,
         &[10, FILE + 65553],
         65648,
     )?;
-    show_words(rt,
+    show_words(
+        rt,
         b"1025 slots",
         &cards::LONG_DIRECTORY,
         &[4, DIRECTORY + 16408],
@@ -61,7 +70,12 @@ pub fn limits(rt: &impl Print) -> io::Result<()> {
 pub fn padding(rt: &impl Print) -> io::Result<()> {
     show_one(rt, b"a bit set after the superblock", 3, 1)?;
     show_one(rt, b"a bit set after a name", 19, 0x6865656c_01000000)?;
-    show_one(rt, b"a bit set after a file's room", 17, 0x80000000_00000000)
+    show_one(
+        rt,
+        b"a bit set after a file's room",
+        17,
+        0x80000000_00000000,
+    )
 }
 
 // The first bytes of the card, and zeros where it is longer.
@@ -78,7 +92,8 @@ pub fn lengths(rt: &impl Print) -> io::Result<()> {
     show_length(rt, b"the last unit cut off", 240)?;
     show_length(rt, b"a unit of zeros at the end", 272)?;
     show_words(rt, b"1048576 bytes", &cards::LONGEST, &[], 1048576)?;
-    show_words(rt,
+    show_words(
+        rt,
         b"1048592 bytes",
         &cards::LONGEST,
         &[8, FREE + 1048520],
@@ -93,7 +108,8 @@ pub fn chains(rt: &impl Print) -> io::Result<()> {
     show_one(rt, b"a first ref inside a free block", 2, 14)?;
     show_one(rt, b"a chain that leaves the image", 27, 16)?;
     show_one(rt, b"a free block before itself", 27, 13)?;
-    show_card(rt,
+    show_card(
+        rt,
         b"two free neighbours",
         &[26, FREE + 8, 27, 14, 28, FREE + 24],
     )
@@ -104,5 +120,11 @@ pub fn other_chains(rt: &impl Print) -> io::Result<()> {
     show_removed(rt, b"a free block left out", &[11, 0])?;
     show_removed(rt, b"a falling chain", &[2, 13, 11, 0, 27, 5])?;
     show_removed(rt, b"a chain in a circle", &[27, 5])?;
-    show_words(rt, b"a first ref and nothing free", &cards::BARE, &[2, 2], 64)
+    show_words(
+        rt,
+        b"a first ref and nothing free",
+        &cards::BARE,
+        &[2, 2],
+        64,
+    )
 }

@@ -50,7 +50,13 @@ fn change(image: &mut [u8], changes: &[u64]) {
 }
 
 // The line of an image of `len` bytes.
-pub fn show_words(rt: &impl Print, text: &[u8], words: &[u64], changes: &[u64], len: usize) -> io::Result<()> {
+pub fn show_words(
+    rt: &impl Print,
+    text: &[u8],
+    words: &[u64],
+    changes: &[u64],
+    len: usize,
+) -> io::Result<()> {
     let mut image = zeros();
     spread(words, &mut image);
     change(&mut image, changes);

@@ -9,13 +9,15 @@ use std::io;
 pub fn roots(rt: &impl Print) -> io::Result<()> {
     show_one(rt, b"a root with another parent", 5, 10)?;
     show_one(rt, b"a root without a parent", 5, 0)?;
-    show_words(rt,
+    show_words(
+        rt,
         b"a root that is a free block",
         &cards::BARE,
         &[2, 2, 4, FREE + 24, 5, 0],
         64,
     )?;
-    show_words(rt,
+    show_words(
+        rt,
         b"no root and no directory",
         &cards::BARE,
         &[1, 0, 2, 2, 4, FREE + 24, 5, 0],
@@ -31,12 +33,17 @@ fn show_object(rt: &impl Print, text: &[u8], r: u64) -> io::Result<()> {
 // A name at 15, "b", and in the slot of /a that name and this object.
 fn show_held(rt: &impl Print, text: &[u8], r: u64) -> io::Result<()> {
     let b = 0x62000000_00000000;
-    show_card(rt, text, &[22, 15, 23, r, 26, FREE + 24, 30, NAME + 1, 31, b])
+    show_card(
+        rt,
+        text,
+        &[22, 15, 23, r, 26, FREE + 24, 30, NAME + 1, 31, b],
+    )
 }
 
 // Rule 3.
 pub fn slots(rt: &impl Print) -> io::Result<()> {
-    show_card(rt,
+    show_card(
+        rt,
         b"an object without a name",
         &[2, 12, 8, 0, 24, FREE + 56, 25, 0, 26, 0],
     )?;
@@ -51,22 +58,26 @@ pub fn slots(rt: &impl Print) -> io::Result<()> {
 
 // Rule 4.
 pub fn naming(rt: &impl Print) -> io::Result<()> {
-    show_card(rt,
+    show_card(
+        rt,
         b"a name in no slot",
         &[26, FREE + 24, 30, NAME + 1, 31, 0x62000000_00000000],
     )?;
     show_card(rt, b"a file in no slot", &[26, FREE + 8, 28, FILE + 24])?;
-    show_card(rt,
+    show_card(
+        rt,
         b"a directory in no slot",
         &[2, 12, 8, 0, 9, 0, 24, FREE + 56, 25, 0, 26, 0],
     )?;
     show_held(rt, b"a file in two slots", 5)?;
-    show_card(rt,
+    show_card(
+        rt,
         b"a name in two slots",
         &[22, 9, 23, 14, 26, FREE + 8, 28, FILE + 24],
     )?;
     show_held(rt, b"the root in a slot", 2)?;
-    show_words(rt,
+    show_words(
+        rt,
         b"a parent that does not hold it",
         &cards::NESTED,
         &[15, 2],
@@ -76,13 +87,15 @@ pub fn naming(rt: &impl Print) -> io::Result<()> {
 
 // Rule 5: no way to the root.
 pub fn detached(rt: &impl Print) -> io::Result<()> {
-    show_words(rt,
+    show_words(
+        rt,
         b"a detached pair",
         &cards::NESTED,
         &[6, 0, 7, 0, 9, 7, 16, 6, 17, 4],
         160,
     )?;
-    show_card(rt,
+    show_card(
+        rt,
         b"a directory in itself",
         &[8, 0, 9, 0, 21, 10, 22, 12, 23, 10],
     )
@@ -96,8 +109,14 @@ fn show_deep(rt: &impl Print, text: &[u8], changes: &[u64], len: usize) -> io::R
 pub fn depth(rt: &impl Print) -> io::Result<()> {
     show_deep(rt, b"16 steps to the root", &[102, 0, 103, 0], 832)?;
     show_deep(rt, b"17 steps to the root", &[], 880)?;
-    show_deep(rt, b"17 steps, the lowest stored first", &cards::SWAPPED, 880)?;
-    show_deep(rt,
+    show_deep(
+        rt,
+        b"17 steps, the lowest stored first",
+        &cards::SWAPPED,
+        880,
+    )?;
+    show_deep(
+        rt,
         b"a file at depth 16",
         &[100, FILE + 24, 101, 0, 102, 0, 103, 0],
         832,
@@ -129,7 +148,8 @@ pub fn names(rt: &impl Print) -> io::Result<()> {
 pub fn spellings(rt: &impl Print) -> io::Result<()> {
     let one = 0xc3a90000_00000000;
     let other = 0x65cc8100_00000000;
-    show_card(rt,
+    show_card(
+        rt,
         b"one word in two spellings",
         &[18, NAME + 2, 19, one, 24, NAME + 3, 25, other],
     )
@@ -143,20 +163,45 @@ pub fn characters(rt: &impl Print) -> io::Result<()> {
     show_name(rt, b"the last of two, DF BF", 2, 0xdfbf0000_00000000)?;
     show_name(rt, b"7FF in three bytes, E0 9F BF", 3, 0xe09fbf00_00000000)?;
     show_name(rt, b"the first of three, E0 A0 80", 3, 0xe0a08000_00000000)?;
-    show_name(rt, b"before the surrogates, ED 9F BF", 3, 0xed9fbf00_00000000)?;
+    show_name(
+        rt,
+        b"before the surrogates, ED 9F BF",
+        3,
+        0xed9fbf00_00000000,
+    )?;
     show_name(rt, b"the first surrogate, ED A0 80", 3, 0xeda08000_00000000)?;
     show_name(rt, b"the last surrogate, ED BF BF", 3, 0xedbfbf00_00000000)?;
-    show_name(rt, b"behind the surrogates, EE 80 80", 3, 0xee808000_00000000)?;
+    show_name(
+        rt,
+        b"behind the surrogates, EE 80 80",
+        3,
+        0xee808000_00000000,
+    )?;
     show_name(rt, b"the last of three, EF BF BF", 3, 0xefbfbf00_00000000)
 }
 
 // Rule 6: the same of four bytes.
 pub fn long_characters(rt: &impl Print) -> io::Result<()> {
-    show_name(rt, b"FFFF in four bytes, F0 8F BF BF", 4, 0xf08fbfbf_00000000)?;
-    show_name(rt, b"the first of four, F0 90 80 80", 4, 0xf0908080_00000000)?;
+    show_name(
+        rt,
+        b"FFFF in four bytes, F0 8F BF BF",
+        4,
+        0xf08fbfbf_00000000,
+    )?;
+    show_name(
+        rt,
+        b"the first of four, F0 90 80 80",
+        4,
+        0xf0908080_00000000,
+    )?;
     show_name(rt, b"10FFFF, F4 8F BF BF", 4, 0xf48fbfbf_00000000)?;
     show_name(rt, b"110000, F4 90 80 80", 4, 0xf4908080_00000000)?;
-    show_name(rt, b"a lead byte above, F5 80 80 80", 4, 0xf5808080_00000000)
+    show_name(
+        rt,
+        b"a lead byte above, F5 80 80 80",
+        4,
+        0xf5808080_00000000,
+    )
 }
 
 // Rule 7: the size field of /heel, its chunk size and its reserved bytes.

@@ -53,7 +53,13 @@ fn show_point(rt: &impl Print, image: &[u8], path: &[u8], number: u64) -> io::Re
 }
 
 // A read into this buffer, and the whole buffer after it.
-fn read_into(rt: &impl Print, image: &[u8], path: &[u8], position: u64, buffer: &mut [u8]) -> io::Result<()> {
+fn read_into(
+    rt: &impl Print,
+    image: &[u8],
+    path: &[u8],
+    position: u64,
+    buffer: &mut [u8],
+) -> io::Result<()> {
     let answer = reading::read(image, path, position, buffer);
     say_path(rt, b"read ", path)?;
     say_number(rt, b" at ", position)?;
@@ -67,7 +73,13 @@ fn read_into(rt: &impl Print, image: &[u8], path: &[u8], position: u64, buffer: 
 }
 
 // A read into the first `n` bytes of a buffer of bytes aa.
-fn show_read(rt: &impl Print, image: &[u8], path: &[u8], position: u64, n: usize) -> io::Result<()> {
+fn show_read(
+    rt: &impl Print,
+    image: &[u8],
+    path: &[u8],
+    position: u64,
+    n: usize,
+) -> io::Result<()> {
     let mut buffer = [0xaau8; 50];
     if n <= 50 {
         read_into(rt, image, path, position, &mut buffer[..n])?;
