@@ -20,7 +20,7 @@ use Rattle.history.proofs.Good.{Good}
 use Rattle.history.proofs.Levels.{row-at, row_dir, row-empty, row-end, row-file, row_at, row_of, tree-stands}
 use Rattle.history.proofs.Nodes.{Among, Node, Rep, Stands, book_of, dir, empty, end, file, height, slots_of}
 use Rattle.history.proofs.Sums.{times}
-use Rattle.history.proofs.Walks.{among_top, file-there, name-there, of_dir, rest_of, root-there, row-of, taken_some}
+use Rattle.history.proofs.Walks.{among_top, file-there, name-there, of_dir, rest_of, root-there, row_of_lem, taken_some}
 
 -- ---- the book of a row that is read off
 
@@ -54,9 +54,9 @@ unfolding row_at tree_at
 book-at os zero r = refl
 book-at os (suc k) r = book-row os (row_at os k) (tree_at os k) (book-at os k) (slots (block_at os r))
 
-book_of : (s : List ℕ) → book_of (row_at (objects (volume_of s)) 17 (volume_of s).root) ≡ tree_of s
+book_of_lem : (s : List ℕ) → book_of (row_at (objects (volume_of s)) 17 (volume_of s).root) ≡ tree_of s
 unfolding tree_of
-book_of s = book-at (objects (volume_of s)) 17 (volume_of s).root
+book_of_lem s = book-at (objects (volume_of s)) 17 (volume_of s).root
 
 -- ---- a well-formed image holds its tree
 
@@ -75,7 +75,7 @@ good s h e =
       block = block_at os root;
       node = row_at os 17 root;
       rep = tree-stands os root (rises s) w.rule_2 (kept w) (λ r f. (formed-file s h e r f).1);
-      book = book_of s;
+      book = book_of_lem s;
     }
 
 -- ---- and no other
@@ -94,7 +94,7 @@ module _ (os : Objects) (once : (r : ℕ) → times r os ≤ 1) where
       let i = of_dir os once n r a b c t h in
       let e = file-there os once n r a b t i in
       let d : row_at os (suc k) r ≡ c =
-      row-at os k r ∙ rw (e, s.1.slots) (row_again k r c s.3 (row-of os once n r a b c t h) (omega arith)) in
+      row-at os k r ∙ rw (e, s.1.slots) (row_again k r c s.3 (row_of_lem os once n r a b c t h) (omega arith)) in
       row_dir os (row_at os (suc k)) (n, r) (slots_of t) (taken_some n r s.1.some) (rw e s.1.is_dir)
       ∙ rw (e, name-there os once n r a b t i, d, row_again (suc k) up t s.4 (rest_of os once n r a b t i) (omega arith))
 
@@ -106,4 +106,4 @@ one_tree os root b c p =
 
 pub tree_is : (n : ℕ) (s : List ℕ) (t : Tree) → Good n s t → tree_of s ≡ t
 tree_is n s t g =
-    sym (book_of s) ∙ ap book_of (one_tree (objects (volume_of s)) (volume_of s).root g.block g.node g.rep) ∙ g.book
+    sym (book_of_lem s) ∙ ap book_of (one_tree (objects (volume_of s)) (volume_of s).root g.block g.node g.rep) ∙ g.book

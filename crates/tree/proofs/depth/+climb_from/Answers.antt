@@ -1,0 +1,40 @@
+-- climb_from: a step up leaves one step less.
+use Rattle.std.proofs.Common.{sym, ap, ◌∙◌, arith}
+use Rattle.tree.specs.Fields.{parent}
+use Rattle.tree.specs.Answers.{climbed}
+use Rattle.tree.proofs.Tests.{kind-directory, kind-is, climb_here, climb_out, climb_lost, climb_none, climb_some, climb-low}
+use Rattle.tree.proofs.depth.+climb_from.Goals as goal
+
+pub returns-then-r-root : goal.returns-then-r-root
+returns-then-r-root t c = climb_here _ _ _ _ c.if-r-root.true
+
+pub returns-then-left-eq0 : goal.returns-then-left-eq0
+returns-then-left-eq0 t c = climb_out _ _ _ c.if-r-root.false _ c.if-left-eq0.true
+
+pub returns-then-not-is_directory : goal.returns-then-not-is_directory
+returns-then-not-is_directory t c =
+    climb_lost _ _ _ c.if-r-root.false _ c.if-left-eq0.false
+    (kind-is _ _ c.kind_at.ensures (sym c.is_directory.ensures ∙ c.if-not-is_directory.true))
+
+pub parent_of-requires : goal.parent_of-requires
+parent_of-requires t c =
+    (kind-directory _ _ c.requires.tiled c.kind_at.ensures (sym c.is_directory.ensures ∙ c.if-not-is_directory.false)).0
+
+pub returns-in_default : goal.returns-in_default
+returns-in_default t c =
+    climb_none _ _ _ c.if-r-root.false _ _ c.if-left-eq0.false
+    (kind-is _ _ c.kind_at.ensures (sym c.is_directory.ensures ∙ c.if-not-is_directory.false))
+    (c.parent_of.ensures ∙ ap parent
+    (kind-directory _ _ c.requires.tiled c.kind_at.ensures (sym c.is_directory.ensures ∙ c.if-not-is_directory.false)).1)
+    (sym (ap climbed c.in_default.is) ∙ c.climb_from-up.ensures)
+
+pub overflow_add-result : goal.overflow_add-result
+overflow_add-result t c = omega (arith, climb-low _ _ _ _ _ (sym (ap climbed c.in-Top.is) ∙ c.climb_from-up.ensures))
+
+pub returns : goal.returns
+returns t c =
+    climb_some _ _ _ c.if-r-root.false _ _ c.if-left-eq0.false
+    (kind-is _ _ c.kind_at.ensures (sym c.is_directory.ensures ∙ c.if-not-is_directory.false))
+    (c.parent_of.ensures ∙ ap parent
+    (kind-directory _ _ c.requires.tiled c.kind_at.ensures (sym c.is_directory.ensures ∙ c.if-not-is_directory.false)).1) _
+    (sym (ap climbed c.in-Top.is) ∙ c.climb_from-up.ensures)

@@ -1,0 +1,42 @@
+-- keeps: by the climb, and where it is deep by the slots.
+use Rattle.tree.proofs.Rows.{block-directory}
+use Rattle.tree.proofs.Tests.{block-other, depth-other, depth_lost, depth_low, depth_deep}
+use Rattle.tree.specs.Answers.{climbed}
+use borrow.Author.Rules.{rules}
+use mathlib.Core.Path.{sym, ap, ◌∙◌}
+use native.Mathlib.Omega.{arith}
+use Rattle.tree.proofs.depth.keeps.Goals as goal
+
+pub magic_at-requires : goal.magic_at-requires
+magic_at-requires c = omega (arith, c.requires.1.fits)
+
+pub returns-then-magic_at-ne-SFDE : goal.returns-then-magic_at-ne-SFDE
+returns-then-magic_at-ne-SFDE c = depth-other _ _ _ _ (block-other _ _ (λ e. c.if-magic_at-ne-SFDE.true (c.magic_at.ensures ∙ e)))
+
+pub climb_from-up-requires : goal.climb_from-up-requires
+climb_from-up-requires c = c.requires.0
+
+pub returns-in_default : goal.returns-in_default
+returns-in_default c =
+    depth_lost _ _ _ _ (block-directory _ _ (sym c.magic_at.ensures ∙ c.if-magic_at-ne-SFDE.false))
+    (sym (ap climbed c.in_default.is) ∙ c.climb_from-up.ensures)
+
+pub returns-then-steps-le15 : goal.returns-then-steps-le15
+returns-then-steps-le15 c =
+    depth_low _ _ _ _ (block-directory _ _ (sym c.magic_at.ensures ∙ c.if-magic_at-ne-SFDE.false)) _
+    (sym (ap climbed c.in-Top.is) ∙ c.climb_from-up.ensures) c.if-steps-le15.true
+
+pub taken_count-requires : goal.taken_count-requires
+taken_count-requires c =
+    record {
+      standing = c.requires.1;
+      magic = sym c.magic_at.ensures
+          ∙ c.if-magic_at-ne-SFDE.false;
+    }
+
+pub returns : goal.returns
+returns c =
+    depth_deep _ _ _ _ (block-directory _ _
+    (sym c.magic_at.ensures ∙ c.if-magic_at-ne-SFDE.false)) _ _
+    (sym (ap climbed c.in-Top.is) ∙ c.climb_from-up.ensures) c.if-steps-le15.false
+    c.taken_count.ensures

@@ -1,0 +1,21 @@
+-- is_file_or_directory: by the kind.
+use Rattle.alloc.specs.Answers.{kind_magic}
+use Rattle.alloc.specs.Block.{SFde, SFre}
+use Rattle.alloc.specs.declared.objects.Kind.{Kind}
+use borrow.Author.Rules.{rules}
+use lib.Dec.{eqb}
+use mathlib.Core.Bool.{◌||◌}
+use mathlib.Core.Path.{sym, ap}
+use Rattle.tree.proofs.fields.is_file_or_directory.Goals as goal
+
+pub returns-in-Nothing : goal.returns-in-Nothing
+returns-in-Nothing c = sym (ap (λ (k : Kind). eqb (kind_magic k) SFre || eqb (kind_magic k) SFde) c.in-Nothing.is)
+
+pub returns-in-Directory : goal.returns-in-Directory
+returns-in-Directory c = sym (ap (λ (k : Kind). eqb (kind_magic k) SFre || eqb (kind_magic k) SFde) c.in-Directory.is)
+
+pub returns-in-Name : goal.returns-in-Name
+returns-in-Name c = sym (ap (λ (k : Kind). eqb (kind_magic k) SFre || eqb (kind_magic k) SFde) c.in-Name.is)
+
+pub returns-in-File : goal.returns-in-File
+returns-in-File c = sym (ap (λ (k : Kind). eqb (kind_magic k) SFre || eqb (kind_magic k) SFde) c.in-File.is)

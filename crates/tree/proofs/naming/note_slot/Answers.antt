@@ -1,0 +1,39 @@
+-- note_slot: an empty slot names nothing; a taken one its name and its object.
+use Rattle.tree.proofs.Noting.{noted-empty, refs-inside, noted-taken}
+use borrow.Author.Rules.{rules}
+use lib.ListN.{length, length-set}
+use mathlib.Core.Path.{ap}
+use native.Mathlib.Omega.{arith}
+use Rattle.tree.proofs.naming.note_slot.Goals as goal
+
+pub returns-then-object-eq0 : goal.returns-then-object-eq0
+returns-then-object-eq0 c =
+    noted-empty c.requires.0 c.requires.1
+    c.requires.2 c.slot_at-s.ensures c.if-object-eq0.true
+
+pub count-requires : goal.count-requires
+count-requires c =
+    (refs-inside c.requires.0
+    c.requires.1 c.requires.2
+    c.slot_at-s.ensures c.if-object-eq0.false).0
+
+pub count-requires-2 : goal.count-requires-2
+count-requires-2 c =
+    omega (
+      arith,
+      simp length-set at (ap length c.count.ensures),
+      (refs-inside
+          c.requires.0
+          c.requires.1
+          c.requires.2
+          c.slot_at-s.ensures c.if-object-eq0.false).1,
+    )
+
+pub returns : goal.returns
+returns c =
+    noted-taken c.requires.0
+    c.requires.1
+    c.requires.2
+    c.slot_at-s.ensures
+    c.if-object-eq0.false c.may_name-right.ensures
+    c.count.ensures c.count-2.ensures

@@ -1,0 +1,10 @@
+-- chain_slots: from the last slot to the first.
+use Rattle.tree.proofs.Linking.{Linking, linking_start, linking_on, linking_end}
+use native.Mathlib.Omega.{arith}
+use Rattle.tree.proofs.prints.chain_slots.Given as goal
+
+abbrev pub invariant-loop-i : goal.invariant-loop-i
+invariant-loop-i l = Linking l.prints l.n l.initial.heads l.initial.links l.heads l.links l.i
+
+abbrev pub decreases-loop-i : goal.decreases-loop-i
+decreases-loop-i l = l.i

@@ -1,0 +1,8 @@
+-- print_at: the data as a part of the image.
+use Rattle.tree.specs.Prints.{print_of}
+use borrow.Author.Rules.{rules}
+use mathlib.Core.Path.{ap, ◌∙◌}
+use Rattle.tree.proofs.prints.print_at.Goals as goal
+
+pub returns : goal.returns
+returns c = (c.print_of.ensures.0 ∙ ap print_of c.body.ensures, c.print_of.ensures.1)

@@ -1,0 +1,43 @@
+use Prim.Native.Nat.{◌-◌}
+use Rattle.alloc.specs.Block.{block_of}
+use Rattle.alloc.specs.Volume.{volume_of, objects}
+use Rattle.tree.proofs.Rows.{Standing-so_far, stood_on, stood_out, stood_end, left-start, directory-is}
+use Rattle.tree.specs.Rules.{slot_stands, slots_stand}
+use borrow.Author.Tests.{not-true, not-false}
+use mathlib.Core.Path.{refl, sym, ap, ◌∙◌}
+use native.Mathlib.Omega.{arith}
+use Rattle.tree.proofs.slots.all_stand.Goals as goal
+
+pub slot_count-n-requires : goal.slot_count-n-requires
+slot_count-n-requires c = c.requires.1
+
+pub loop-i-init : goal.loop-i-init
+loop-i-init c = record { so_far = refl }
+
+pub slot_at-requires : goal.slot_at-requires
+slot_at-requires c = (c.requires.1, omega (arith, c.slot_count-n.ensures))
+
+pub stands-requires : goal.stands-requires
+stands-requires c = c.requires.0
+
+pub returns-then-not-stands : goal.returns-then-not-stands
+returns-then-not-stands c =
+    stood_out c.loop-i.invariant (omega (arith, c.slot_count-n.ensures))
+    (ap (slot_stands _) (sym c.slot_at.ensures) ∙ sym c.stands.ensures ∙ c.if-not-stands.true)
+    ∙ ap (slots_stand _) (sym (left-start _ (directory-is c.requires.1)))
+
+pub overflow_add-i : goal.overflow_add-i
+overflow_add-i c = omega arith
+
+pub loop-i-smaller : goal.loop-i-smaller
+loop-i-smaller c = omega arith
+
+pub loop-i-preserved : goal.loop-i-preserved
+loop-i-preserved c =
+    stood_on c.loop-i.invariant (omega (arith, c.slot_count-n.ensures))
+    (ap (slot_stands _) (sym c.slot_at.ensures) ∙ sym c.stands.ensures ∙ c.if-not-stands.false)
+
+pub returns : goal.returns
+returns c =
+    stood_end c.loop-i.invariant (omega (arith, c.slot_count-n.ensures)) ∙ ap (slots_stand _)
+    (sym (left-start _ (directory-is c.requires.1)))

@@ -1,0 +1,85 @@
+use Prim.Native.Nat.{◌-◌}
+use Rattle.alloc.proofs.Cuts.{cut_fits, cut_standing}
+use Rattle.alloc.proofs.Links.{Links, links-start, links_end, links-other, links-free}
+use Rattle.alloc.specs.Volume.{volume_of, objects}
+use Rattle.storage.specs.declared.Ref.{Ref}
+use Rattle.tree.proofs.Joint.{kept_free}
+use Rattle.tree.proofs.Noting.{rule_4_here}
+use Rattle.tree.proofs.Visits.{visited_holds}
+use Rattle.tree.proofs.Whole.{WalksAll, walks_start, walks_on, walks_end, never_true}
+use Rattle.tree.specs.Verdict.{keeps, rule3, rule4}
+use borrow.Author.Rules.{rules}
+use borrow.Author.Tests.{not-false}
+use lib.ListN.{length}
+use mathlib.Core.Logic.{⊎_elim}
+use mathlib.Core.Path.{◌∙◌, sym, ap}
+use native.Mathlib.Omega.{arith}
+use Rattle.tree.proofs.verdict.none_broken.Goals as goal
+use Rattle.tree.proofs.verdict.none_broken.Goals.{then-magic_at-eq-SFFR+else-behind-next, else-magic_at-eq-SFFR+else-not-keeps_all}
+
+pub begin-next-requires : goal.begin-next-requires
+begin-next-requires c = (c.requires rule4).marked.tiled
+
+pub loop-at-init : goal.loop-at-init
+loop-at-init c =
+    rw c.start-at.ensures
+    (walks_start _ (c.requires rule4).marked.tiled, links-start (c.requires rule4).marked.tiled c.begin-next.ensures)
+
+pub magic_at-requires : goal.magic_at-requires
+magic_at-requires c = omega (arith, c.loop-at.invariant.0.cut, cut_fits c.loop-at.invariant.0.cut (omega arith))
+
+pub returns-then-behind-next : goal.returns-then-behind-next
+returns-then-behind-next c = λ e. never_true e
+
+pub next_of-next-requires : goal.next_of-next-requires
+next_of-next-requires c = (
+  cut_standing c.loop-at.invariant.0.cut (omega arith),
+  sym c.magic_at.ensures
+      ∙ c.if-magic_at-eq-SFFR.true,
+)
+
+pub keeps_all-requires : goal.keeps_all-requires
+keeps_all-requires c = λ n.
+    let l = c.loop-at.invariant.0.cut in
+    record {
+      marked = (c.requires n).marked;
+      standing = cut_standing l (omega arith);
+      counts = λ e z. rule_4_here l (omega arith) z ((c.requires n).counts e)
+          c.args.root.0;
+      slots_hold =
+          λ e z. visited_holds (keeps rule3 (objects (volume_of c.args.image.now))
+          c.args.root.0) l (omega arith) z ((c.requires
+          n).slots_hold e);
+    }
+
+pub returns-then-not-keeps_all : goal.returns-then-not-keeps_all
+returns-then-not-keeps_all c = λ e. never_true e
+
+pub after-r-requires : goal.after-r-requires
+after-r-requires c = omega (arith, c.loop-at.invariant.0.cut, cut_fits c.loop-at.invariant.0.cut (omega arith))
+
+pub start-at-requires-in-loop-at : goal.start-at-requires-in-loop-at
+start-at-requires-in-loop-at c = omega (arith, c.loop-at.invariant.0.cut, cut_fits c.loop-at.invariant.0.cut (omega arith))
+
+pub loop-at-smaller : goal.loop-at-smaller
+loop-at-smaller c = omega (arith, c.loop-at.invariant.0.cut, cut_fits c.loop-at.invariant.0.cut (omega arith))
+
+pub loop-at-preserved : goal.loop-at-preserved
+loop-at-preserved c =
+    let l = c.loop-at.invariant in
+    let m = c.magic_at.ensures in
+    elim c.if-magic_at-eq-SFFR.branch [
+      then-magic_at-eq-SFFR+else-behind-next w ↦ let f = sym m ∙ w.if-magic_at-eq-SFFR.true in (
+        walks_on l.0 (omega arith) (kept_free _ _ _ f) _ _ c.after-r.ensures c.start-at-in-loop-at.ensures,
+        links-free l.1 (omega arith) f w.if-behind-next.false _ _ _ _ w.behind-is (ap (λ (x : Ref). x.0) w.next-is ∙ w.next_of-next.ensures)
+        c.after-r.ensures c.start-at-in-loop-at.ensures,
+      )
+    | else-magic_at-eq-SFFR+else-not-keeps_all w ↦ (
+        walks_on l.0 (omega arith) (w.keeps_all.ensures w.if-not-keeps_all.false) _ _ c.after-r.ensures c.start-at-in-loop-at.ensures,
+        links-other l.1 (omega arith) (λ e. w.if-magic_at-eq-SFFR.false (m ∙ e)) _ _ _ _ w.behind-is (ap (λ (x : Ref). x.0) w.next-is)
+        c.after-r.ensures c.start-at-in-loop-at.ensures,
+      )
+    ]
+
+pub returns : goal.returns
+returns c = λ e. (walks_end c.loop-at.invariant.0 (omega arith), sym (links_end c.loop-at.invariant.1 (omega arith)) ∙ e)
