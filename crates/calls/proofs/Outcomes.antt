@@ -11,6 +11,7 @@ use native.Mathlib.Omega.{arith}
 use lib.Dec.{leb}
 use lib.ListN.{drop, length, take}
 use borrow.Author.Tests.{leb-true}
+use Rattle.storage.specs.declared.Ref.{Ref}
 use Rattle.storage.specs.Bytes.{zeroed}
 use Rattle.storage.proofs.Booleans.{and_true}
 use Rattle.alloc.specs.Tiling.{within}
@@ -91,6 +92,6 @@ reached-number s path n r e =
     omega (arith, leb-true 1 n a.0, leb-true n 4096 a.1)
 
 -- a beginning that is told to reach nothing
-pub not_reached : (x : declared-start.Start) → tag_of declared.the_type x ≡ 0 → (r : ℕ) → start_of x ≡ reached r → ⊥
+pub not_reached : (x : declared-start.Start) → ((q : Ref) → x ≡ Reached q → ⊥) → (r : ℕ) → start_of x ≡ reached r → ⊥
 not_reached (Refused n) k r e = let z : ◌≡◌ {A = ℕ} 0 1 = cc in omega arith
-not_reached (Reached q) k r e = let z : ◌≡◌ {A = ℕ} 1 0 = k in omega arith
+not_reached (Reached q) k r e = absurd (k q refl)

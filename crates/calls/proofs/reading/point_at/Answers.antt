@@ -1,0 +1,36 @@
+-- point_at: the whole point within the file size, or 13.
+use Rattle.calls.proofs.Contents.{file-standing, file_numbers, point_none, point-inside, point_some}
+use Rattle.calls.specs.Reading.{Point}
+use borrow.Author.Rules.{rules}
+use mathlib.Core.Path.{ap, ◌∙◌}
+use native.Mathlib.Omega.{arith}
+use Rattle.calls.proofs.reading.point_at.Goals as goal
+
+pub read_u64-size-requires : goal.read_u64-size-requires
+read_u64-size-requires c = (file-standing (λ i. (c.type_inv.image i).fits) c.requires.0, omega (arith, file_numbers (λ i. (c.type_inv.image i).fits) c.requires.0))
+
+pub returns-then-size-n : goal.returns-then-size-n
+returns-then-size-n c =
+    record {
+      refusal_is = c.no_point.ensures.0 ∙ ap (λ (p : Point). p.refusal)
+          (point_none (λ i. (c.type_inv.image i).fits) c.requires.0 c.read_u64-size.ensures
+          c.args.n (omega arith));
+      bytes-is = c.no_point.ensures.1 ∙ ap (λ (p : Point). p.bytes)
+          (point_none (λ i. (c.type_inv.image i).fits) c.requires.0 c.read_u64-size.ensures
+          c.args.n (omega arith));
+    }
+
+pub copy_out-requires : goal.copy_out-requires
+copy_out-requires c = (
+  file-standing (λ i. (c.type_inv.image i).fits) c.requires.0,
+  point-inside
+      (λ i. (c.type_inv.image i).fits) c.requires.0 c.read_u64-size.ensures
+      c.args.n c.requires.1 (omega arith),
+  search rules,
+)
+
+pub returns : goal.returns
+returns c =
+    point_some (λ i. (c.type_inv.image i).fits) c.requires.0
+    c.read_u64-size.ensures c.args.n
+    c.requires.1 (omega arith) _ c.copy_out.ensures

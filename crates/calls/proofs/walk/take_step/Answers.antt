@@ -1,0 +1,15 @@
+-- take_step: what is no directory blocks the way.
+use Rattle.calls.proofs.Stands.{object-at, object-directory, no_directory}
+use Rattle.calls.proofs.Steps.{step-blocked}
+use borrow.Author.Rules.{rules}
+use native.Mathlib.Omega.{arith}
+use Rattle.calls.proofs.walk.take_step.Goals as goal
+
+pub magic_at-requires : goal.magic_at-requires
+magic_at-requires c = omega (arith, (object-at (λ i. (c.type_inv.image i).fits) c.requires).standing.fits)
+
+pub returns-then-magic_at-ne-SFDE : goal.returns-then-magic_at-ne-SFDE
+returns-then-magic_at-ne-SFDE c = step-blocked _ _ _ (no_directory (λ i. (c.type_inv.image i).fits) c.requires c.magic_at.ensures c.if-magic_at-ne-SFDE.true)
+
+pub child-requires : goal.child-requires
+child-requires c = object-directory (λ i. (c.type_inv.image i).fits) c.requires c.magic_at.ensures c.if-magic_at-ne-SFDE.false

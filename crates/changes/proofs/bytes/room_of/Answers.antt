@@ -1,0 +1,14 @@
+-- room_of: the data of its block, but 16 bytes.
+use Rattle.calls.proofs.Contents.{file_numbers, file-standing, room-is}
+use borrow.Author.Rules.{rules}
+use native.Mathlib.Omega.{arith}
+use Rattle.changes.proofs.bytes.room_of.Goals as goal
+
+pub size_at-requires : goal.size_at-requires
+size_at-requires c = omega (arith, (file-standing (λ i. (c.type_inv.image i).fits) c.requires).fits, file_numbers (λ i. (c.type_inv.image i).fits) c.requires)
+
+pub overflow_sub-result : goal.overflow_sub-result
+overflow_sub-result c = omega (arith, file_numbers (λ i. (c.type_inv.image i).fits) c.requires, c.size_at.ensures)
+
+pub returns : goal.returns
+returns c = omega (arith, room-is (λ i. (c.type_inv.image i).fits) c.requires, c.size_at.ensures)

@@ -1,0 +1,55 @@
+-- fresh: an empty volume, the root placed first, its parent.
+use Rattle.alloc.specs.Answers.{placed_at}
+use Rattle.alloc.specs.Block.{SFde}
+use Rattle.alloc.specs.Sound.{Object}
+use Rattle.changes.proofs.Formatting.{directory-object, new_sound, root-done, root-fits, root_store}
+use borrow.Author.Rules.{rules}
+use mathlib.Core.Path.{ap, sym, subst}
+use native.Mathlib.Omega.{arith}
+use Rattle.changes.proofs.format.fresh.Goals as goal
+
+pub empty-requires : goal.empty-requires
+empty-requires c = c.requires.0
+
+pub directory_size-requires : goal.directory_size-requires
+directory_size-requires c = omega (arith, c.requires)
+
+pub block-placed-requires : goal.block-placed-requires
+block-placed-requires c =
+    let d = c.directory_size.ensures in (
+      new_sound c.requires.0 c.requires.1
+          c.requires.2 c.requires.3
+          c.empty.ensures d,
+      subst (Object SFde) (sym d)
+          (directory-object _ c.requires.1 c.requires.2),
+    )
+
+pub returns-in_default : goal.returns-in_default
+returns-in_default c =
+    absurd (root-fits c.requires.0
+    c.requires.1
+    c.requires.2
+    c.requires.3
+    c.empty.ensures c.directory_size.ensures
+    c.block-placed.ensures (ap placed_at c.in_default.is))
+
+pub write_ref-requires : goal.write_ref-requires
+write_ref-requires c =
+    root_store c.requires.0
+    c.requires.1
+    c.requires.2
+    c.requires.3
+    c.empty.ensures
+    c.directory_size.ensures c.block-placed.ensures
+    (ap placed_at c.in-At.is)
+
+pub returns : goal.returns
+returns c =
+    root-done c.requires.0
+    c.requires.1
+    c.requires.2
+    c.requires.3
+    c.empty.ensures
+    c.directory_size.ensures
+    c.block-placed.ensures (ap placed_at c.in-At.is)
+    c.write_ref.ensures

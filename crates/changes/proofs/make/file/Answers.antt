@@ -1,0 +1,6 @@
+-- file: the same.
+use borrow.Author.Rules.{rules}
+use Rattle.changes.proofs.make.file.Goals as goal
+
+pub returns : goal.returns
+returns c = c.make.ensures

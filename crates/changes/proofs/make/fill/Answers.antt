@@ -1,0 +1,34 @@
+-- fill: placed, and filled store by store.
+use Rattle.alloc.specs.Answers.{pair_at}
+use Rattle.changes.proofs.Making.{fill_done, fill_name, fill_none, fill_object, fill_slot_lem, name-object, new_object, object-told, pair_told, unmade-told, vacant-sound}
+use Rattle.changes.specs.Answers.{new_of}
+use borrow.Author.Rules.{rules}
+use mathlib.Core.Path.{ap}
+use native.Mathlib.Omega.{arith}
+use Rattle.changes.proofs.make.fill.Goals as goal
+
+pub overflow_cast-name : goal.overflow_cast-name
+overflow_cast-name c = omega (arith, c.requires.name.most)
+
+pub size_of-requires : goal.size_of-requires
+size_of-requires c = c.requires.bounds
+
+pub place-placed-requires : goal.place-placed-requires
+place-placed-requires c = (vacant-sound (λ i. (c.slice_known-1.given i).fits) c.requires, name-object c.requires.name, object-told c.magic_of.ensures c.size_of.ensures (new_object (new_of c.args.new) c.requires.bounds))
+
+pub returns-in_default : goal.returns-in_default
+returns-in_default c =
+    unmade-told c.unmade.ensures.0 c.unmade.ensures.1
+    (fill_none (λ i. (c.slice_known-1.given i).fits) c.requires (pair_told c.magic_of.ensures c.size_of.ensures (ap pair_at c.in_default.is) c.place-placed.ensures))
+
+pub copy_in-requires : goal.copy_in-requires
+copy_in-requires c = fill_name (λ i. (c.slice_known-1.given i).fits) c.requires (pair_told c.magic_of.ensures c.size_of.ensures (ap pair_at c.in-At.is) c.place-placed.ensures)
+
+pub write_parent-requires : goal.write_parent-requires
+write_parent-requires c = fill_object (λ i. (c.slice_known-1.given i).fits) c.requires (pair_told c.magic_of.ensures c.size_of.ensures (ap pair_at c.in-At.is) c.place-placed.ensures) c.copy_in.ensures
+
+pub set-requires : goal.set-requires
+set-requires c = fill_slot_lem (λ i. (c.slice_known-1.given i).fits) c.requires (pair_told c.magic_of.ensures c.size_of.ensures (ap pair_at c.in-At.is) c.place-placed.ensures) c.copy_in.ensures c.write_parent.ensures
+
+pub returns : goal.returns
+returns c = fill_done (λ i. (c.slice_known-1.given i).fits) c.requires (pair_told c.magic_of.ensures c.size_of.ensures (ap pair_at c.in-At.is) c.place-placed.ensures) c.copy_in.ensures c.write_parent.ensures c.set.ensures
