@@ -1,0 +1,30 @@
+-- open_slots: by the levels and the magic.
+use Rattle.calls.proofs.Stands.{directory-stands, no_directory, object-at, object-directory}
+use Rattle.listing.proofs.Held.{count_all, count-file, count_none}
+use Rattle.tree.specs.Fields.{total}
+use mathlib.Core.Path.{◌∙◌, ap}
+use native.Mathlib.Omega.{arith}
+use Rattle.listing.proofs.lines.open_slots.Goals as goal
+
+pub returns-then-levels-eq0 : goal.returns-then-levels-eq0
+returns-then-levels-eq0 c = count_none _ _ c.if-levels-eq0.true
+
+pub magic_at-requires : goal.magic_at-requires
+magic_at-requires c = omega (arith, (object-at (λ i. (c.type_inv.image i).fits) c.requires).standing.fits)
+
+pub returns-then-magic_at-ne-SFDE : goal.returns-then-magic_at-ne-SFDE
+returns-then-magic_at-ne-SFDE c = count-file _ _ (no_directory (λ i. (c.type_inv.image i).fits) c.requires c.magic_at.ensures c.if-magic_at-ne-SFDE.true)
+
+pub slot_count-requires : goal.slot_count-requires
+slot_count-requires c =
+    (directory-stands (λ i. (c.type_inv.image i).fits)
+    (object-directory (λ i. (c.type_inv.image i).fits) c.requires c.magic_at.ensures c.if-magic_at-ne-SFDE.false)).0
+
+pub returns : goal.returns
+returns c =
+    c.slot_count.ensures ∙ ap total (directory-stands (λ i. (c.type_inv.image i).fits)
+    (object-directory (λ i. (c.type_inv.image i).fits) c.requires c.magic_at.ensures
+    c.if-magic_at-ne-SFDE.false)).1
+    ∙ count_all _ _ c.if-levels-eq0.false
+    (object-directory (λ i. (c.type_inv.image i).fits) c.requires
+    c.magic_at.ensures c.if-magic_at-ne-SFDE.false).kind
