@@ -1,0 +1,12 @@
+-- What was checked is well formed.
+use Rattle.calls.proofs.Checking.{checked_formed}
+use Rattle.tree.proofs.Formed.{formed-tiled}
+use Rattle.lister.proofs.card.show.Goals as goal
+
+pub free_units-requires : goal.free_units-requires
+free_units-requires g c =
+    formed-tiled _ (λ i. (c.type_inv.image i).fits)
+    (checked_formed _ c.check-own.ensures c.number.ensures c.if-number-ne0.false)
+
+pub show_lines-requires : goal.show_lines-requires
+show_lines-requires g c = checked_formed _ c.check-own.ensures c.number.ensures c.if-number-ne0.false
