@@ -1,8 +1,6 @@
 -- The calls that change nothing, by how they begin.
-use Rattle.calls.specs.contracts.walk.Start as declared
 use Rattle.calls.specs.declared.walk.Start as declared-start
 use Rattle.calls.specs.declared.walk.Start.TheVariants.{Refused, Reached}
-use denote.Enum.Declared.{tag_of}
 use Prim.Native.Nat.{◌<◌, ℕ}
 use mathlib.Core.Bool.{Bool, cond, false, true}
 use mathlib.Core.List.{List}

@@ -22,7 +22,6 @@ use Rattle.alloc.specs.Room.{PlacedPair, after_update, blank, place_pair, update
 use Rattle.alloc.specs.Sound.{Holds, Object, Sound}
 use Rattle.alloc.specs.Tiling.{other_kind}
 use Rattle.alloc.specs.Volume.{Extent, block_at, image, objects, objects_from, volume_of}
-use Rattle.alloc.proofs.Changes.{renewed}
 use Rattle.alloc.proofs.Creating.{drop-zeroed}
 use Rattle.alloc.proofs.Data.{spliced}
 use Rattle.alloc.proofs.Choosing.{chooses_tightest}

@@ -16,13 +16,12 @@ use Rattle.alloc.specs.Block.{Block, SFde, SFna, SFre, size_at}
 use Rattle.alloc.specs.Room.{after_release, after_update, released, with_extents}
 use Rattle.alloc.specs.Sound.{Holds}
 use Rattle.alloc.specs.Volume.{Extent, block_at, image, objects, objects_from, volume_of}
-use Rattle.alloc.proofs.Changes.{Renewed, renewed}
+use Rattle.alloc.proofs.Changes.{Renewed}
 use Rattle.alloc.proofs.Data.{found}
 use Rattle.alloc.proofs.Entries.{released-other}
 use Rattle.alloc.proofs.Order.{release_order}
 use Rattle.alloc.proofs.Stages.{stage_holds, stage_image, stage_released, stage_start}
 use Rattle.tree.specs.Fields.{Slot, is_dir, is_file, slot_at, slots, taken, taken_count}
-use Rattle.tree.specs.WellFormed.{is-taken}
 use Rattle.tree.proofs.Formed.{Filled, dir_there, file-there, formed_dir, formed-sound, formed-taken, name-there}
 use Rattle.tree.proofs.Indexed.{slots-other}
 use Rattle.calls.specs.declared.refusal.Reason.TheVariants.{IsRoot, NotEmpty, NotFound}

@@ -1,11 +1,5 @@
-use Prim.Native.Nat.{◌-◌}
 use Rattle.path.proofs.Parts.{begins_none, begins-end, component_part, part_slash, part_other}
 use Rattle.path.proofs.Walk.{walk_on, walk_end}
-use Rattle.path.specs.Path.{parts, components}
-use Rattle.path.specs.Walk.{Walk}
-use lib.ListN.{length, get_or}
-use mathlib.Core.List.{[]}
-use mathlib.Core.Logic.{⊎_elim}
 use mathlib.Core.Path.{sym}
 use native.Mathlib.Omega.{arith}
 use Rattle.path.proofs.begin_of.Goals as goal
@@ -36,8 +30,8 @@ pub loop-begin-preserved : goal.loop-begin-preserved
 loop-begin-preserved c =
     let w = c.loop-begin.invariant in
     elim c.if-path-begin-eq47.branch [
-      then-path-begin-eq47 v ↦ rw v.left-is (walk_on w 0 _ (omega arith) (part_slash _ _ (omega arith) v.if-path-begin-eq47.true))
-    | else-path-begin-eq47 v ↦ rw v.left-is (walk_on w 0 _ (omega arith) (part_other _ _ (omega arith) v.if-path-begin-eq47.false))
+      | then-path-begin-eq47 v ↦ rw v.left-is (walk_on w 0 _ (omega arith) (part_slash _ _ (omega arith) v.if-path-begin-eq47.true))
+      | else-path-begin-eq47 v ↦ rw v.left-is (walk_on w 0 _ (omega arith) (part_other _ _ (omega arith) v.if-path-begin-eq47.false))
     ]
 
 pub returns : goal.returns

@@ -1,14 +1,9 @@
 -- begin_of: the component is the part with number left of the bytes from begin on. Assumes nothing.
 use Prim.Native.Nat.{◌-◌}
-use Rattle.path.proofs.Parts.{begins_none, begins-end, component_part, part_slash, part_other}
-use Rattle.path.proofs.Walk.{walk_on, walk_end}
 use Rattle.path.specs.Path.{parts, components}
 use Rattle.path.specs.Walk.{Walk}
 use lib.ListN.{length, get_or}
 use mathlib.Core.List.{[]}
-use mathlib.Core.Logic.{⊎_elim}
-use mathlib.Core.Path.{sym}
-use native.Mathlib.Omega.{arith}
 use Rattle.path.proofs.begin_of.Given as goal
 
 abbrev pub invariant-loop-begin : goal.invariant-loop-begin

@@ -1,5 +1,4 @@
 -- bounds: where the component begins, and where that part ends. Assumes nothing.
-use borrow.Author.Rules.{rules}
 use mathlib.Core.Path.{◌∙◌}
 use Rattle.path.proofs.bounds.Goals as goal
 

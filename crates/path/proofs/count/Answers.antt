@@ -1,11 +1,9 @@
-use Prim.Native.Nat.{ℕ, ◌-◌, ◌≤◌, ◌+◌}
+use Prim.Native.Nat.{ℕ, ◌+◌}
 use Rattle.path.proofs.Parts.{components_none, components-parts, count-slash, count-other}
 use Rattle.path.proofs.Walk.{walk_on, walk_end}
-use Rattle.path.specs.Path.{parts, components}
-use Rattle.path.specs.Walk.{Walk}
+use Rattle.path.specs.Path.{parts}
 use lib.ListN.{length}
 use mathlib.Core.List.{List}
-use mathlib.Core.Logic.{⊎_elim}
 use mathlib.Core.Path.{ap, sym}
 use native.Mathlib.Omega.{arith}
 use Rattle.path.proofs.count.Goals as goal
@@ -39,8 +37,8 @@ pub loop-at-preserved : goal.loop-at-preserved
 loop-at-preserved c =
     let w = c.loop-at.invariant in
     elim c.if-path-at-eq47.branch [
-      then-path-at-eq47 v ↦ (omega arith, rw v.n-is (walk_on w.1 0 _ (omega arith) (count-slash _ _ v.if-path-at-eq47.true)))
-    | else-path-at-eq47 v ↦ (omega arith, rw v.n-is (walk_on w.1 0 _ (omega arith) (count-other _ _ v.if-path-at-eq47.false)))
+      | then-path-at-eq47 v ↦ (omega arith, rw v.n-is (walk_on w.1 0 _ (omega arith) (count-slash _ _ v.if-path-at-eq47.true)))
+      | else-path-at-eq47 v ↦ (omega arith, rw v.n-is (walk_on w.1 0 _ (omega arith) (count-other _ _ v.if-path-at-eq47.false)))
     ]
 
 pub returns : goal.returns

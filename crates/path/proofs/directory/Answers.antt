@@ -1,6 +1,5 @@
 -- directory: the bytes before the last slash, and the first byte at least. Assumes nothing.
 use Rattle.path.proofs.Parts.{directory-is}
-use borrow.Author.Rules.{rules}
 use lib.Seq.{length-take-le, take_all}
 use mathlib.Core.Path.{sym, ◌∙◌}
 use native.Mathlib.Omega.{arith}

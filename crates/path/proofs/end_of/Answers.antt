@@ -1,8 +1,5 @@
-use Prim.Native.Nat.{◌-◌, ◌≤◌}
-use Rattle.path.proofs.Parts.{up_none, up_end, first, up_to, up_slash, up_other}
+use Rattle.path.proofs.Parts.{up_none, up_end, up_slash, up_other}
 use Rattle.path.proofs.Walk.{walk_on, walk_stop, walk_end}
-use Rattle.path.specs.Walk.{Walk}
-use lib.ListN.{length, drop}
 use mathlib.Core.Path.{◌∙◌}
 use native.Mathlib.Omega.{arith}
 use Rattle.path.proofs.end_of.Goals as goal

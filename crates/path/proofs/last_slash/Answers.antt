@@ -1,10 +1,6 @@
-use Prim.Native.Nat.{◌-◌, ◌≤◌}
 use Rattle.path.proofs.Parts.{last_slash_lem, last_other}
 use Rattle.path.proofs.Walk.{walk_on, walk_end}
 use Rattle.path.specs.Path.{last_slash}
-use Rattle.path.specs.Walk.{Walk}
-use lib.ListN.{length}
-use mathlib.Core.Logic.{⊎_elim}
 use mathlib.Core.Path.{refl}
 use native.Mathlib.Omega.{arith}
 use Rattle.path.proofs.last_slash.Goals as goal
@@ -26,8 +22,8 @@ pub loop-i-preserved : goal.loop-i-preserved
 loop-i-preserved c =
     let w = c.loop-i.invariant in
     elim c.if-path-i-eq47.branch [
-      then-path-i-eq47 v ↦ (omega arith, rw v.last-is (walk_on w.1 0 _ (omega arith) (last_slash_lem _ _ _ v.if-path-i-eq47.true)))
-    | else-path-i-eq47 v ↦ (omega arith, rw v.last-is (walk_on w.1 0 _ (omega arith) (last_other _ _ _ v.if-path-i-eq47.false)))
+      | then-path-i-eq47 v ↦ (omega arith, rw v.last-is (walk_on w.1 0 _ (omega arith) (last_slash_lem _ _ _ v.if-path-i-eq47.true)))
+      | else-path-i-eq47 v ↦ (omega arith, rw v.last-is (walk_on w.1 0 _ (omega arith) (last_other _ _ _ v.if-path-i-eq47.false)))
     ]
 
 pub returns : goal.returns

@@ -1,13 +1,8 @@
 -- last_slash: the last slash so far, and the bytes from i on. Assumes nothing.
 use Prim.Native.Nat.{◌-◌, ◌≤◌}
-use Rattle.path.proofs.Parts.{last_slash_lem, last_other}
-use Rattle.path.proofs.Walk.{walk_on, walk_end}
 use Rattle.path.specs.Path.{last_slash}
 use Rattle.path.specs.Walk.{Walk}
 use lib.ListN.{length}
-use mathlib.Core.Logic.{⊎_elim}
-use mathlib.Core.Path.{refl}
-use native.Mathlib.Omega.{arith}
 use Rattle.path.proofs.last_slash.Given as goal
 
 abbrev pub invariant-loop-i : goal.invariant-loop-i

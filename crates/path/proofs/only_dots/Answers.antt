@@ -1,6 +1,5 @@
 -- only_dots: the length decides which bytes are looked at. Assumes nothing.
 use Rattle.path.proofs.Names.{dots_one, dots_two, dots-other}
-use borrow.Author.Rules.{rules}
 use Rattle.path.proofs.only_dots.Goals as goal
 
 pub returns-then-name-eq1 : goal.returns-then-name-eq1

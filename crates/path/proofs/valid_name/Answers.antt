@@ -1,6 +1,5 @@
 -- valid_name: the length, then the two tests of the bytes.
 use Rattle.path.proofs.Names.{name-short, name-long, name-bytes}
-use borrow.Author.Rules.{rules}
 use mathlib.Core.Bool.{◌&&◌, not}
 use mathlib.Core.Path.{◌∙◌}
 use native.Mathlib.Omega.{arith}

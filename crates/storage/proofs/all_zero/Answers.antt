@@ -1,5 +1,4 @@
-use Prim.Native.Nat.{◌-◌}
-use Rattle.storage.proofs.Runs.{Zeros, zeros-end, zeros_on, zeros_out, eight_on, eight_out}
+use Rattle.storage.proofs.Runs.{zeros-end, zeros_on, zeros_out, eight_on, eight_out}
 use mathlib.Core.Path.{refl, sym, ◌∙◌}
 use native.Mathlib.Omega.{arith}
 use Rattle.storage.proofs.all_zero.Goals as goal

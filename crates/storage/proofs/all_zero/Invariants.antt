@@ -1,8 +1,6 @@
 -- all_zero: the bytes passed are zero, eight at once and then one by one, so the rest decides.
 use Prim.Native.Nat.{◌-◌}
-use Rattle.storage.proofs.Runs.{Zeros, zeros-end, zeros_on, zeros_out, eight_on, eight_out}
-use mathlib.Core.Path.{refl, sym, ◌∙◌}
-use native.Mathlib.Omega.{arith}
+use Rattle.storage.proofs.Runs.{Zeros}
 use Rattle.storage.proofs.all_zero.Given as goal
 
 abbrev pub invariant-loop-i : goal.invariant-loop-i

@@ -1,6 +1,4 @@
-use Prim.Native.Nat.{◌-◌}
-use Rattle.storage.proofs.Runs.{Stored, stored-start, stored_on, stored-end}
-use lib.ListN.{length}
+use Rattle.storage.proofs.Runs.{stored-start, stored_on, stored-end}
 use mathlib.Core.Path.{refl}
 use native.Mathlib.Omega.{arith}
 use Rattle.storage.proofs.copy_in.Goals as goal

@@ -1,9 +1,7 @@
 -- copy_in: after i turns i bytes are stored.
 use Prim.Native.Nat.{◌-◌}
-use Rattle.storage.proofs.Runs.{Stored, stored-start, stored_on, stored-end}
+use Rattle.storage.proofs.Runs.{Stored}
 use lib.ListN.{length}
-use mathlib.Core.Path.{refl}
-use native.Mathlib.Omega.{arith}
 use Rattle.storage.proofs.copy_in.Given as goal
 
 abbrev pub invariant-loop-i : goal.invariant-loop-i

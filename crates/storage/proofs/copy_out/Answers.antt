@@ -1,5 +1,4 @@
-use Prim.Native.Nat.{◌-◌}
-use Rattle.storage.proofs.Runs.{Stored, stored-start, stored_on, stored-end, length_part, get_d_part}
+use Rattle.storage.proofs.Runs.{stored-start, stored_on, stored-end, length_part, get_d_part}
 use lib.ListN.{take, drop}
 use mathlib.Core.Path.{sym}
 use native.Mathlib.Nat.{zero-add}

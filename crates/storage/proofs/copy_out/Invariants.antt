@@ -1,10 +1,7 @@
 -- copy_out: after i turns i bytes are stored.
 use Prim.Native.Nat.{◌-◌}
-use Rattle.storage.proofs.Runs.{Stored, stored-start, stored_on, stored-end, length_part, get_d_part}
+use Rattle.storage.proofs.Runs.{Stored}
 use lib.ListN.{take, drop}
-use mathlib.Core.Path.{sym}
-use native.Mathlib.Nat.{zero-add}
-use native.Mathlib.Omega.{arith}
 use Rattle.storage.proofs.copy_out.Given as goal
 
 abbrev pub invariant-loop-i : goal.invariant-loop-i

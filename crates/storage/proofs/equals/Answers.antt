@@ -1,6 +1,4 @@
-use Prim.Native.Nat.{◌-◌}
-use Rattle.storage.proofs.Runs.{Equal, equal_start, equal_end, equal_on, equal_out}
-use lib.ListN.{length}
+use Rattle.storage.proofs.Runs.{equal_start, equal_end, equal_on, equal_out}
 use native.Mathlib.Omega.{arith}
 use Rattle.storage.proofs.equals.Goals as goal
 

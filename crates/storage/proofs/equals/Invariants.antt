@@ -1,8 +1,7 @@
 -- equals: the bytes passed are equal, so the rest decides.
 use Prim.Native.Nat.{◌-◌}
-use Rattle.storage.proofs.Runs.{Equal, equal_start, equal_end, equal_on, equal_out}
+use Rattle.storage.proofs.Runs.{Equal}
 use lib.ListN.{length}
-use native.Mathlib.Omega.{arith}
 use Rattle.storage.proofs.equals.Given as goal
 
 abbrev pub invariant-loop-i : goal.invariant-loop-i

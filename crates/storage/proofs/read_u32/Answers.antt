@@ -1,7 +1,6 @@
 -- read_u32: four bytes, each shifted to its place.
 use Rattle.storage.proofs.Shifts.{or_32}
 use Rattle.storage.specs.Bytes.{u32_at}
-use borrow.Author.Rules.{rules}
 use native.Mathlib.Omega.{arith}
 use Rattle.storage.proofs.read_u32.Goals as goal
 

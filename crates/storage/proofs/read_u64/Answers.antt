@@ -1,7 +1,6 @@
 -- read_u64: two halves, the high one shifted to its place.
 use Rattle.storage.proofs.Shifts.{or_64}
 use Rattle.storage.specs.Bytes.{u64_at}
-use borrow.Author.Rules.{rules}
 use native.Mathlib.Omega.{arith}
 use Rattle.storage.proofs.read_u64.Goals as goal
 

@@ -1,6 +1,5 @@
 -- write_u32: four stores are a splice.
 use Rattle.storage.proofs.Runs.{store_32}
-use borrow.Author.Rules.{rules}
 use lib.ListN.{length-set}
 use native.Mathlib.Omega.{arith}
 use Rattle.storage.proofs.write_u32.Goals as goal

@@ -1,6 +1,5 @@
 -- write_u64: two halves are one splice.
 use Rattle.storage.proofs.Runs.{store_64}
-use borrow.Author.Rules.{rules}
 use lib.Bits.{and_mask, and_le_r}
 use lib.Dec.{lit<}
 use mathlib.Core.Path.{refl}

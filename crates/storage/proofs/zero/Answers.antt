@@ -1,5 +1,5 @@
-use Prim.Native.Nat.{ℕ, ◌-◌}
-use Rattle.storage.proofs.Runs.{Stored, stored-start, stored_on, stored-end}
+use Prim.Native.Nat.{ℕ}
+use Rattle.storage.proofs.Runs.{stored-start, stored_on, stored-end}
 use Rattle.storage.specs.Bytes.{zeroed}
 use lib.ListN.{length-replicate, get_or-replicate}
 use mathlib.Core.Path.{refl, sym}

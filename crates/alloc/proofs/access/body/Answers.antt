@@ -1,6 +1,5 @@
 -- body: the data as a part of the image.
 use Rattle.alloc.proofs.Held.{body-read}
-use borrow.Author.Rules.{rules}
 use mathlib.Core.Path.{refl}
 use Rattle.alloc.proofs.access.body.Goals as goal
 

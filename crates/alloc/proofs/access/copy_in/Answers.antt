@@ -1,6 +1,5 @@
 -- copy_in: a store into the object.
 use Rattle.alloc.proofs.Held.{holds_fits, update_done}
-use borrow.Author.Rules.{rules}
 use native.Mathlib.Omega.{arith}
 use Rattle.alloc.proofs.access.copy_in.Goals as goal
 

@@ -1,7 +1,6 @@
 -- copy_out: a part of the block's data.
 use Rattle.alloc.proofs.Held.{part_read}
 use Rattle.storage.specs.Bytes.{splice}
-use borrow.Author.Rules.{rules}
 use mathlib.Core.Path.{ap, ◌∙◌}
 use Rattle.alloc.proofs.access.copy_out.Goals as goal
 

@@ -1,6 +1,5 @@
 -- equal_data: the second block's data as a part of the image.
 use Rattle.storage.specs.Bytes.{same}
-use borrow.Author.Rules.{rules}
 use mathlib.Core.Path.{ap, ◌∙◌}
 use Rattle.alloc.proofs.access.equal_data.Goals as goal
 

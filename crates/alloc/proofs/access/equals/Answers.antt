@@ -2,7 +2,6 @@
 use Rattle.alloc.proofs.Cuts.{block_size}
 use Rattle.alloc.proofs.Held.{equals_read}
 use Rattle.storage.proofs.Compare.{same_length}
-use borrow.Author.Rules.{rules}
 use mathlib.Core.Path.{sym, ◌∙◌}
 use Rattle.alloc.proofs.access.equals.Goals as goal
 

@@ -1,6 +1,5 @@
 -- read_u64: a number of the block's data.
 use Rattle.alloc.proofs.Held.{number_read}
-use borrow.Author.Rules.{rules}
 use Rattle.alloc.proofs.access.read_u64.Goals as goal
 
 pub returns : goal.returns

@@ -2,7 +2,6 @@
 use Rattle.alloc.proofs.Held.{holds_fits, update_done}
 use Rattle.storage.proofs.Numbers.{length-be64}
 use Rattle.storage.specs.Bytes.{be64}
-use borrow.Author.Rules.{rules}
 use native.Mathlib.Omega.{arith}
 use Rattle.alloc.proofs.access.write_ref.Goals as goal
 

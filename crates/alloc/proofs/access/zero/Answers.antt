@@ -2,7 +2,6 @@
 use Prim.Native.Nat.{ℕ}
 use Rattle.alloc.proofs.Held.{holds_fits, update_done}
 use Rattle.storage.specs.Bytes.{zeroed}
-use borrow.Author.Rules.{rules}
 use lib.ListN.{length-replicate}
 use native.Mathlib.Omega.{arith}
 use Rattle.alloc.proofs.access.zero.Goals as goal

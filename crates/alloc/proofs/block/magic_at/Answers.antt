@@ -1,7 +1,6 @@
 -- magic_at: the number at the block's first byte.
 use Rattle.alloc.specs.Block.{magic_at}
 use Rattle.storage.specs.Bytes.{u32_at}
-use borrow.Author.Rules.{rules}
 use mathlib.Core.Path.{ap, ◌∙◌}
 use Rattle.alloc.proofs.block.magic_at.Goals as goal
 

@@ -2,7 +2,6 @@
 use Prim.Native.Nat.{ℕ, ◌+◌}
 use Rattle.alloc.specs.Block.{size_at}
 use Rattle.storage.specs.Bytes.{u32_at}
-use borrow.Author.Rules.{rules}
 use mathlib.Core.Path.{ap, ◌∙◌}
 use Rattle.alloc.proofs.block.size_at.Goals as goal
 

@@ -1,12 +1,8 @@
-use Prim.Native.Nat.{◌-◌}
 use Rattle.alloc.proofs.Cuts.{cut_fits, cut_standing, tiled-long}
 use Rattle.alloc.proofs.Held.{number_read}
-use Rattle.alloc.proofs.Links.{Links, links-start, links_end, links-other, links-broken, links-free, free-least}
+use Rattle.alloc.proofs.Links.{links-start, links_end, links-other, links-broken, links-free, free-least}
 use Rattle.storage.specs.Bytes.{u64_at}
 use Rattle.storage.specs.declared.Ref.{Ref}
-use borrow.Author.Rules.{rules}
-use lib.ListN.{length}
-use mathlib.Core.Logic.{⊎_elim}
 use mathlib.Core.Path.{ap, sym, ◌∙◌}
 use native.Mathlib.Omega.{arith}
 use Rattle.alloc.proofs.chain.check.Goals as goal
@@ -49,15 +45,15 @@ loop-at-preserved c =
     let l = c.loop-at.invariant in
     let m = c.magic_at.ensures in
     elim c.if-magic_at-eq-SFFR.branch [
-      then-magic_at-eq-SFFR+else-behind-next w ↦
-        let st = cut_standing l.cut (omega arith) in
-        let f = sym m ∙ w.if-magic_at-eq-SFFR.true in
-        links-free l (omega arith) f w.if-behind-next.false _ _ _ _ w.behind-is
-        (ap (λ (x : Ref). x.0) w.next-is ∙ number_read st 0 (free-least st f) w.data_start-then-magic_at-eq-SFFR.ensures w.read_ref-next-then-magic_at-eq-SFFR.ensures)
-        c.after-r.ensures c.start-at-in-loop-at.ensures
-    | else-magic_at-eq-SFFR w ↦
-        links-other l (omega arith) (λ e. w.if-magic_at-eq-SFFR.false (m ∙ e)) _ _ _ _ w.behind-is (ap (λ (x : Ref). x.0) w.next-is)
-        c.after-r.ensures c.start-at-in-loop-at.ensures
+      | then-magic_at-eq-SFFR+else-behind-next w ↦
+          let st = cut_standing l.cut (omega arith) in
+          let f = sym m ∙ w.if-magic_at-eq-SFFR.true in
+          links-free l (omega arith) f w.if-behind-next.false _ _ _ _ w.behind-is
+          (ap (λ (x : Ref). x.0) w.next-is ∙ number_read st 0 (free-least st f) w.data_start-then-magic_at-eq-SFFR.ensures w.read_ref-next-then-magic_at-eq-SFFR.ensures)
+          c.after-r.ensures c.start-at-in-loop-at.ensures
+      | else-magic_at-eq-SFFR w ↦
+          links-other l (omega arith) (λ e. w.if-magic_at-eq-SFFR.false (m ∙ e)) _ _ _ _ w.behind-is (ap (λ (x : Ref). x.0) w.next-is)
+          c.after-r.ensures c.start-at-in-loop-at.ensures
     ]
 
 pub returns : goal.returns

@@ -1,5 +1,4 @@
 -- free_at: by the block's kind.
-use borrow.Author.Rules.{rules}
 use borrow.Author.Tests.{eq-eqb, ne_eqb}
 use mathlib.Core.Path.{sym, ◌∙◌}
 use Rattle.alloc.proofs.chain.free_at.Goals as goal

@@ -1,8 +1,5 @@
-use Prim.Native.Nat.{◌-◌}
 use Rattle.alloc.proofs.Cuts.{cut_fits}
-use Rattle.alloc.proofs.Lookups.{Counts, counts_start, counts_on, counts_end}
-use borrow.Author.Rules.{rules}
-use lib.ListN.{length}
+use Rattle.alloc.proofs.Lookups.{counts_start, counts_on, counts_end}
 use mathlib.Core.Path.{refl}
 use native.Mathlib.Omega.{arith}
 use Rattle.alloc.proofs.chain.free_units.Goals as goal

@@ -1,11 +1,7 @@
 -- free_units: what was counted so far, and what is left.
 use Prim.Native.Nat.{◌-◌}
-use Rattle.alloc.proofs.Cuts.{cut_fits}
-use Rattle.alloc.proofs.Lookups.{Counts, counts_start, counts_on, counts_end}
-use borrow.Author.Rules.{rules}
+use Rattle.alloc.proofs.Lookups.{Counts}
 use lib.ListN.{length}
-use mathlib.Core.Path.{refl}
-use native.Mathlib.Omega.{arith}
 use Rattle.alloc.proofs.chain.free_units.Given as goal
 
 abbrev pub invariant-loop-at : goal.invariant-loop-at

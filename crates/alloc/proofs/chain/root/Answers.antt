@@ -2,7 +2,6 @@
 use Rattle.alloc.proofs.Cuts.{tiled-long}
 use Rattle.alloc.proofs.Links.{volume-root}
 use Rattle.storage.specs.Bytes.{u64_at}
-use borrow.Author.Rules.{rules}
 use mathlib.Core.Path.{ap, sym, ◌∙◌}
 use native.Mathlib.Omega.{arith}
 use Rattle.alloc.proofs.chain.root.Goals as goal

@@ -1,7 +1,6 @@
 -- empty: zeros, the superblock and a free block's header are the empty volume's image.
 use Rattle.alloc.proofs.Creating.{empty-done}
 use Rattle.alloc.proofs.Cuts.{length-parts}
-use borrow.Author.Rules.{rules}
 use native.Mathlib.Omega.{arith}
 use Rattle.alloc.proofs.create.empty.Goals as goal
 

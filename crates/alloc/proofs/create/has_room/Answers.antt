@@ -1,7 +1,6 @@
 -- has_room: the end of the block, in units.
 use Prim.Native.Nat.{ℕ, ◌+◌}
 use Rattle.alloc.proofs.Creating.{room_exact}
-use borrow.Author.Rules.{rules}
 use mathlib.Core.Path.{◌∙◌, ap}
 use Rattle.alloc.proofs.create.has_room.Goals as goal
 

@@ -1,10 +1,6 @@
-use Prim.Native.Nat.{◌-◌}
 use Rattle.alloc.proofs.Cuts.{tiled-long}
-use Rattle.alloc.proofs.Fits.{Seeks, seeks_start, seeks_end, seeks_on, seen_inside}
+use Rattle.alloc.proofs.Fits.{seeks_start, seeks_end, seeks_on, seen_inside}
 use Rattle.alloc.proofs.Soundness.{sound-tiled}
-use Rattle.alloc.specs.Answers.{fit_of}
-use borrow.Author.Rules.{rules}
-use lib.ListN.{length}
 use native.Mathlib.Omega.{arith}
 use Rattle.alloc.proofs.fit.find.Goals as goal
 

@@ -1,7 +1,6 @@
 -- tighter: by its tests.
 use Rattle.alloc.proofs.Fits.{kept_small, kept-first, kept-tighter, kept-before}
 use Rattle.alloc.specs.Answers.{fit_of}
-use borrow.Author.Rules.{rules}
 use mathlib.Core.Path.{ap}
 use native.Mathlib.Omega.{arith}
 use Rattle.alloc.proofs.fit.tighter.Goals as goal

@@ -1,9 +1,5 @@
-use Prim.Native.Nat.{◌-◌}
-use Rattle.alloc.proofs.Marking.{MarksSoFar, marks-start, marks_on, blank-long, marking_length, marking_long, marking_broken, marking_whole}
+use Rattle.alloc.proofs.Marking.{marks-start, marks_on, blank-long, marking_length, marking_long, marking_broken, marking_whole}
 use Rattle.alloc.proofs.Tiles.{tiles_fits}
-use borrow.Author.Rules.{rules}
-use borrow.Author.Tests.{not-true, not-false}
-use lib.ListN.{length}
 use mathlib.Core.Path.{◌∙◌, sym, refl}
 use native.Mathlib.Omega.{arith}
 use Rattle.alloc.proofs.marks.check.Goals as goal

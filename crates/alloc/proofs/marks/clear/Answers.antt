@@ -1,7 +1,6 @@
 -- clear: as many zeros as the image has units.
 use Prim.Native.Nat.{ℕ}
 use Rattle.storage.specs.Bytes.{splice, zeroed}
-use borrow.Author.Rules.{rules}
 use mathlib.Core.Path.{ap, ◌∙◌}
 use Rattle.alloc.proofs.marks.clear.Goals as goal
 

@@ -1,6 +1,5 @@
 -- kind_at: past the image there is nothing; else by the mark.
 use Rattle.alloc.proofs.Marking.{marked_none, marked-kind}
-use borrow.Author.Rules.{rules}
 use mathlib.Core.Path.{◌∙◌}
 use native.Mathlib.Omega.{arith}
 use Rattle.alloc.proofs.marks.kind_at.Goals as goal

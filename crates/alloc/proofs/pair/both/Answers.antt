@@ -2,7 +2,6 @@
 use Rattle.alloc.proofs.Choosing.{chooses_tightest}
 use Rattle.alloc.proofs.Pairs.{told, two_none, after_first, two_never, two_done}
 use Rattle.alloc.specs.Answers.{placed_at}
-use borrow.Author.Rules.{rules}
 use mathlib.Core.Path.{ap}
 use Rattle.alloc.proofs.pair.both.Goals as goal
 

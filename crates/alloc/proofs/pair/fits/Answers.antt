@@ -1,6 +1,5 @@
 -- fits: by the two largest free blocks.
 use Rattle.alloc.proofs.Fitting.{decides_none, decides_some}
-use borrow.Author.Rules.{rules}
 use native.Mathlib.Omega.{arith}
 use Rattle.alloc.proofs.pair.fits.Goals as goal
 

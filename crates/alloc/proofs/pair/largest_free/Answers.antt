@@ -1,5 +1,5 @@
 use Rattle.alloc.proofs.Cuts.{tiled-long}
-use Rattle.alloc.proofs.Fits.{Scans, scans_start, scans_end, scans_on, scans_less, ahead_of, seen_inside}
+use Rattle.alloc.proofs.Fits.{scans_start, scans_end, scans_on, scans_less, seen_inside}
 use Rattle.alloc.proofs.Soundness.{sound-tiled}
 use native.Mathlib.Omega.{arith}
 use Rattle.alloc.proofs.pair.largest_free.Goals as goal

@@ -1,8 +1,5 @@
 -- largest_free: what was passed is counted in, so the rest decides.
-use Rattle.alloc.proofs.Cuts.{tiled-long}
-use Rattle.alloc.proofs.Fits.{Scans, scans_start, scans_end, scans_on, scans_less, ahead_of, seen_inside}
-use Rattle.alloc.proofs.Soundness.{sound-tiled}
-use native.Mathlib.Omega.{arith}
+use Rattle.alloc.proofs.Fits.{Scans, ahead_of}
 use Rattle.alloc.proofs.pair.largest_free.Given as goal
 
 abbrev pub invariant-loop-at : goal.invariant-loop-at

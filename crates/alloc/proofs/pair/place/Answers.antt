@@ -2,8 +2,6 @@
 use Rattle.alloc.proofs.Choosing.{chooses_tightest}
 use Rattle.alloc.proofs.Pairs.{told_two, pair_refused, larger_fits, name-fits, larger_done, name_done}
 use Rattle.alloc.specs.Answers.{two_at}
-use borrow.Author.Rules.{rules}
-use borrow.Author.Tests.{not-true, not-false}
 use mathlib.Core.Path.{ap}
 use Rattle.alloc.proofs.pair.place.Goals as goal
 

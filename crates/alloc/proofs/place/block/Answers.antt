@@ -1,7 +1,6 @@
 -- block: the tightest gap, then the stores.
 use Rattle.alloc.proofs.Stores.{found-gap, places_none, places_some, found-enough}
 use Rattle.alloc.specs.Answers.{fit_of}
-use borrow.Author.Rules.{rules}
 use mathlib.Core.Path.{ap}
 use Rattle.alloc.proofs.place.block.Goals as goal
 

@@ -1,6 +1,5 @@
 -- carve: the whole of the gap, or its front.
 use Rattle.alloc.proofs.Stores.{carve-room, carve_whole, carve_part}
-use borrow.Author.Rules.{rules}
 use native.Mathlib.Omega.{arith}
 use Rattle.alloc.proofs.place.carve.Goals as goal
 

@@ -6,7 +6,6 @@ use Rattle.alloc.specs.Block.{bytes}
 use Rattle.alloc.specs.Room.{blank}
 use Rattle.storage.specs.Bytes.{be32}
 use Rattle.storage.specs.Bytes.{zeroed}
-use borrow.Author.Rules.{rules}
 use mathlib.Core.List.{◌++◌}
 use mathlib.Core.Path.{ap, ◌∙◌}
 use native.Mathlib.Omega.{arith}

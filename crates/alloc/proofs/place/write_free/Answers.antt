@@ -4,7 +4,6 @@ use Rattle.alloc.proofs.Stores.{headed, length-header}
 use Rattle.alloc.specs.Block.{SFfr}
 use Rattle.alloc.specs.Steps.{header}
 use Rattle.storage.specs.Bytes.{be32, be64}
-use borrow.Author.Rules.{rules}
 use mathlib.Core.List.{◌++◌}
 use mathlib.Core.Path.{ap}
 use native.Mathlib.Omega.{arith}

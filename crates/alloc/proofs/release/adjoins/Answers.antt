@@ -1,7 +1,6 @@
 -- adjoins: by whether there is a free block before.
 use Prim.Native.Nat.{ℕ}
 use Rattle.alloc.proofs.Plans.{adjoins_none, adjoins_some}
-use borrow.Author.Rules.{rules}
 use lib.Dec.{eqb}
 use mathlib.Core.Path.{ap, ◌∙◌}
 use native.Mathlib.Omega.{arith}

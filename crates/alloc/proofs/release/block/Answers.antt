@@ -1,6 +1,5 @@
 -- block: the stores that were planned.
 use Rattle.alloc.proofs.Plans.{done_alone, done_beside}
-use borrow.Author.Rules.{rules}
 use native.Mathlib.Omega.{arith}
 use Rattle.alloc.proofs.release.block.Goals as goal
 

@@ -1,6 +1,5 @@
 -- hook: by whether there is a free block before.
 use Rattle.alloc.proofs.Plans.{hook_zero, hook_pos}
-use borrow.Author.Rules.{rules}
 use mathlib.Core.Path.{◌∙◌}
 use native.Mathlib.Nat.{add-zero}
 use Rattle.alloc.proofs.release.hook.Goals as goal

@@ -1,5 +1,4 @@
-use Prim.Native.Nat.{◌-◌}
-use Rattle.alloc.proofs.Plans.{Trails, inside, hook-least, hook_pos, trails_start, trails_on, trails_rise, trails_stop}
+use Rattle.alloc.proofs.Plans.{inside, hook-least, hook_pos, trails_start, trails_on, trails_rise, trails_stop}
 use native.Mathlib.Omega.{arith}
 use Rattle.alloc.proofs.release.last_free.Goals as goal
 

@@ -1,7 +1,6 @@
 -- last_free: the hook of what lies before, followed up to the block.
 use Prim.Native.Nat.{◌-◌}
-use Rattle.alloc.proofs.Plans.{Trails, inside, hook-least, hook_pos, trails_start, trails_on, trails_rise, trails_stop}
-use native.Mathlib.Omega.{arith}
+use Rattle.alloc.proofs.Plans.{Trails}
 use Rattle.alloc.proofs.release.last_free.Given as goal
 
 abbrev pub invariant-loop-next : goal.invariant-loop-next

@@ -1,6 +1,5 @@
 -- plan: the free blocks on both sides, by the numbers read.
 use Rattle.alloc.proofs.Plans.{inside, own_size, next-inside, plan_small, plan_alone, plan_beside}
-use borrow.Author.Rules.{rules}
 use mathlib.Core.Path.{sym, ◌∙◌}
 use native.Mathlib.Omega.{arith}
 use Rattle.alloc.proofs.release.plan.Goals as goal

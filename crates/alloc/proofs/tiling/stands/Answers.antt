@@ -1,7 +1,5 @@
 -- stands: kind, end and padding, each test with its fact.
 use Rattle.alloc.proofs.Tiles.{judged_kind, judged_over, judged_short, judged_padding}
-use borrow.Author.Rules.{rules}
-use borrow.Author.Tests.{not-true, not-false}
 use native.Mathlib.Omega.{arith}
 use Rattle.alloc.proofs.tiling.stands.Goals as goal
 

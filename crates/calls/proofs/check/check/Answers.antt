@@ -1,6 +1,5 @@
 -- check: by the verdict.
 use Rattle.calls.proofs.Checking.{check-is, rule-low}
-use borrow.Author.Rules.{rules}
 use Rattle.calls.proofs.check.check.Goals as goal
 
 pub refusal_of-requires : goal.refusal_of-requires

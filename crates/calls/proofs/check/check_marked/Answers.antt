@@ -1,6 +1,5 @@
 -- check_marked: too few marks, or by the verdict.
 use Rattle.calls.proofs.Checking.{checks_few, checks_judged, rule-low}
-use borrow.Author.Rules.{rules}
 use native.Mathlib.Omega.{arith}
 use Rattle.calls.proofs.check.check_marked.Goals as goal
 

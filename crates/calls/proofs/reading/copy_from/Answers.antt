@@ -1,6 +1,5 @@
 -- copy_from: nothing from the file's end on, else what fits.
 use Rattle.calls.proofs.Contents.{copies_none, copies_some, copy_inside, file_numbers, file-standing, size-high}
-use borrow.Author.Rules.{rules}
 use native.Mathlib.Omega.{arith}
 use Rattle.calls.proofs.reading.copy_from.Goals as goal
 

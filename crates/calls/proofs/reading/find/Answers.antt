@@ -2,7 +2,6 @@
 use Rattle.calls.proofs.Outcomes.{find-refused, find-reached}
 use Rattle.calls.proofs.Steps.{start-object}
 use Rattle.calls.specs.Answers.{start_of}
-use borrow.Author.Rules.{rules}
 use mathlib.Core.Path.{sym, ap, ◌∙◌}
 use Rattle.calls.proofs.reading.find.Goals as goal
 

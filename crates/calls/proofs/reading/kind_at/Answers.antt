@@ -1,7 +1,6 @@
 -- kind_at: by the magic, from the block that stands there.
 use Rattle.calls.proofs.Contents.{file-standing, file_numbers, kind-directory, kind-file}
 use Rattle.calls.proofs.Stands.{object-at, object-directory, other-file, directory-stands}
-use borrow.Author.Rules.{rules}
 use native.Mathlib.Omega.{arith}
 use Rattle.calls.proofs.reading.kind_at.Goals as goal
 

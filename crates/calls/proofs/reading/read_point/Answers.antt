@@ -3,7 +3,6 @@ use Rattle.calls.proofs.Outcomes.{refused_so, not_reached, reached-number, point
 use Rattle.calls.proofs.Stands.{object-at, object-file, no_file}
 use Rattle.calls.proofs.Steps.{start-object}
 use Rattle.calls.specs.Answers.{start_of}
-use borrow.Author.Rules.{rules}
 use mathlib.Core.Path.{sym, ap, ◌∙◌}
 use native.Mathlib.Omega.{arith}
 use Rattle.calls.proofs.reading.read_point.Goals as goal

@@ -1,9 +1,7 @@
-use Prim.Native.Nat.{◌-◌}
-use Rattle.calls.proofs.Lowest.{Seeking, empty-slot, seeking_end, seeking_here, seeking_on, seeking_start, taken-slot}
+use Rattle.calls.proofs.Lowest.{empty-slot, seeking_end, seeking_here, seeking_on, seeking_start, taken-slot}
 use Rattle.calls.proofs.Stands.{directory-stands, slot_read}
-use Rattle.calls.specs.Reading.{block_in}
-use Rattle.tree.specs.Fields.{taken, total}
-use mathlib.Core.Bool.{false, not, true}
+use Rattle.tree.specs.Fields.{total}
+use mathlib.Core.Bool.{false, true}
 use mathlib.Core.Path.{◌∙◌, ap, refl}
 use native.Mathlib.Omega.{arith}
 use Rattle.calls.proofs.slots.empty.Goals as goal

@@ -1,11 +1,6 @@
-use Prim.Native.Nat.{◌-◌}
-use Rattle.alloc.specs.Volume.{block_at, objects, volume_of}
-use Rattle.calls.proofs.Lowest.{Seeking, seeking_end, seeking_here, seeking_on, seeking_start}
+use Rattle.calls.proofs.Lowest.{seeking_end, seeking_here, seeking_on, seeking_start}
 use Rattle.calls.proofs.Stands.{directory-stands}
-use Rattle.calls.specs.Reading.{block_in}
-use Rattle.storage.specs.Bytes.{same}
-use Rattle.tree.specs.Fields.{taken, total}
-use mathlib.Core.Bool.{◌&&◌}
+use Rattle.tree.specs.Fields.{total}
 use mathlib.Core.Path.{◌∙◌, ap}
 use native.Mathlib.Omega.{arith}
 use Rattle.calls.proofs.slots.with_name.Goals as goal

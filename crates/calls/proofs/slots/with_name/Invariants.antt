@@ -1,14 +1,11 @@
 -- with_name: the slots passed have other names, so the rest decides.
 use Prim.Native.Nat.{◌-◌}
 use Rattle.alloc.specs.Volume.{block_at, objects, volume_of}
-use Rattle.calls.proofs.Lowest.{Seeking, seeking_end, seeking_here, seeking_on, seeking_start}
-use Rattle.calls.proofs.Stands.{directory-stands}
+use Rattle.calls.proofs.Lowest.{Seeking}
 use Rattle.calls.specs.Reading.{block_in}
 use Rattle.storage.specs.Bytes.{same}
-use Rattle.tree.specs.Fields.{taken, total}
+use Rattle.tree.specs.Fields.{taken}
 use mathlib.Core.Bool.{◌&&◌}
-use mathlib.Core.Path.{◌∙◌, ap}
-use native.Mathlib.Omega.{arith}
 use Rattle.calls.proofs.slots.with_name.Given as goal
 
 abbrev pub invariant-loop-i : goal.invariant-loop-i

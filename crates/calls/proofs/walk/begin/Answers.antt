@@ -1,7 +1,6 @@
 -- begin: refused first, or the walk.
 use Rattle.calls.proofs.Steps.{opened_formed, or_passed, or_refused_lem}
 use Rattle.calls.specs.Walk.{start}
-use borrow.Author.Rules.{rules}
 use mathlib.Core.Path.{◌∙◌}
 use Rattle.calls.proofs.walk.begin.Goals as goal
 

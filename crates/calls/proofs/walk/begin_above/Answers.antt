@@ -4,7 +4,6 @@ use Rattle.calls.proofs.Stands.{no_directory, object-at, object-directory}
 use Rattle.calls.proofs.Steps.{above-directory, above-file, above-first, above-refused, above_root, opened_formed, opened_object}
 use Rattle.calls.specs.Answers.{start_of}
 use Rattle.storage.proofs.Numbers.{AllBytes}
-use borrow.Author.Rules.{rules}
 use mathlib.Core.Path.{◌∙◌, ap, sym}
 use native.Mathlib.Omega.{arith}
 use Rattle.calls.proofs.walk.begin_above.Goals as goal

@@ -5,7 +5,6 @@ use Rattle.calls.proofs.Steps.{step-found}
 use Rattle.calls.specs.Answers.{index_of}
 use Rattle.calls.specs.Walk.{at}
 use Rattle.tree.specs.Fields.{Slot}
-use borrow.Author.Rules.{rules}
 use mathlib.Core.Option.{none, some}
 use mathlib.Core.Path.{◌∙◌, ap, sym}
 use Rattle.calls.proofs.walk.child.Goals as goal

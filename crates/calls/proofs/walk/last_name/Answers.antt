@@ -1,6 +1,5 @@
 -- last_name: the component before the path's end, or none.
 use Rattle.calls.proofs.Steps.{last_none, last_some}
-use borrow.Author.Rules.{rules}
 use Rattle.calls.proofs.walk.last_name.Goals as goal
 
 pub returns-then-n-eq0 : goal.returns-then-n-eq0

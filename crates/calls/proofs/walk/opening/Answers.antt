@@ -1,8 +1,6 @@
 -- opening: the image's own refusal, the path's, that of the numbers, or none.
 use Rattle.calls.proofs.Checking.{checked_broken, checked_formed}
 use Rattle.calls.proofs.Steps.{opening-bounds, opening-broken, opening_none, opening-path}
-use borrow.Author.Rules.{rules}
-use borrow.Author.Tests.{not-false, not-true}
 use mathlib.Core.Path.{◌∙◌, sym}
 use Rattle.calls.proofs.walk.opening.Goals as goal
 

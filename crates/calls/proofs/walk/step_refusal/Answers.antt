@@ -1,7 +1,6 @@
 -- step_refusal: case by case.
 use Rattle.calls.specs.Answers.{step_of, walk_refusal}
 use Rattle.calls.specs.declared.walk.Step.{Step}
-use borrow.Author.Rules.{rules}
 use mathlib.Core.Path.{ap, sym}
 use Rattle.calls.proofs.walk.step_refusal.Goals as goal
 

@@ -1,7 +1,6 @@
 -- take_step: what is no directory blocks the way.
 use Rattle.calls.proofs.Stands.{object-at, object-directory, no_directory}
 use Rattle.calls.proofs.Steps.{step-blocked}
-use borrow.Author.Rules.{rules}
 use native.Mathlib.Omega.{arith}
 use Rattle.calls.proofs.walk.take_step.Goals as goal
 

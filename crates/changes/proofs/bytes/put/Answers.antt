@@ -1,7 +1,6 @@
 -- put: zeros in the gap, the bytes, the size.
 use Rattle.calls.proofs.Contents.{file_numbers, file-standing, room-is}
 use Rattle.changes.proofs.Storing.{bytes_open, gap_open, open_file, store_at, written-done}
-use borrow.Author.Rules.{rules}
 use native.Mathlib.Omega.{arith}
 use Rattle.changes.proofs.bytes.put.Goals as goal
 

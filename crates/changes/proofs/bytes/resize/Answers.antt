@@ -2,7 +2,6 @@
 use Rattle.calls.proofs.Contents.{file_numbers, file-standing, room-is}
 use Rattle.changes.proofs.Storing.{cut_inside, cut_open, open_file, resized-done, store_at}
 use Rattle.storage.proofs.Numbers.{AllBytes}
-use borrow.Author.Rules.{rules}
 use native.Mathlib.Omega.{arith}
 use Rattle.changes.proofs.bytes.resize.Goals as goal
 

@@ -1,6 +1,5 @@
 -- room_of: the data of its block, but 16 bytes.
 use Rattle.calls.proofs.Contents.{file_numbers, file-standing, room-is}
-use borrow.Author.Rules.{rules}
 use native.Mathlib.Omega.{arith}
 use Rattle.changes.proofs.bytes.room_of.Goals as goal
 

@@ -4,7 +4,6 @@ use Rattle.calls.proofs.Stands.{no_file, object-at, object-file}
 use Rattle.calls.proofs.Steps.{start-object}
 use Rattle.calls.specs.Answers.{start_of}
 use Rattle.changes.proofs.Storing.{file-directory, file-reached, file-refused, set-length-is}
-use borrow.Author.Rules.{rules}
 use mathlib.Core.Path.{◌∙◌, ap, sym}
 use native.Mathlib.Omega.{arith}
 use Rattle.changes.proofs.bytes.set_length.Goals as goal

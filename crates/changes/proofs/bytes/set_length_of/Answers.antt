@@ -1,6 +1,5 @@
 -- set_length_of: 12, or the length.
 use Rattle.changes.proofs.Storing.{resize_past, resize_within}
-use borrow.Author.Rules.{rules}
 use native.Mathlib.Omega.{arith}
 use Rattle.changes.proofs.bytes.set_length_of.Goals as goal
 

@@ -1,6 +1,5 @@
 -- write_to: 12, nothing, or the bytes.
 use Rattle.changes.proofs.Storing.{write_none, write_past, write-within}
-use borrow.Author.Rules.{rules}
 use native.Mathlib.Omega.{arith}
 use Rattle.changes.proofs.bytes.write_to.Goals as goal
 

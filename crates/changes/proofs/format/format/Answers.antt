@@ -2,8 +2,7 @@
 use Prim.Native.Nat.{◌+◌, ◌*◌}
 use Rattle.alloc.specs.Block.{units_for}
 use Rattle.changes.proofs.Formatting.{format-done, format-length, format-room, format-slots, inside, outside}
-use borrow.Author.Rules.{rules}
-use borrow.Author.Tests.{leb-true, leb-false, not-false, not-true}
+use borrow.Author.Tests.{leb-true, leb-false}
 use lib.ListN.{length}
 use mathlib.Core.Path.{◌∙◌, sym}
 use native.Mathlib.Omega.{arith}

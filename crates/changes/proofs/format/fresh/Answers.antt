@@ -3,7 +3,6 @@ use Rattle.alloc.specs.Answers.{placed_at}
 use Rattle.alloc.specs.Block.{SFde}
 use Rattle.alloc.specs.Sound.{Object}
 use Rattle.changes.proofs.Formatting.{directory-object, new_sound, root-done, root-fits, root_store}
-use borrow.Author.Rules.{rules}
 use mathlib.Core.Path.{ap, sym, subst}
 use native.Mathlib.Omega.{arith}
 use Rattle.changes.proofs.format.fresh.Goals as goal

@@ -2,7 +2,6 @@
 use Rattle.changes.proofs.Making.{file-allowed}
 use Rattle.changes.specs.Answers.{new_of}
 use Rattle.changes.specs.Changing.{allowed}
-use borrow.Author.Rules.{rules}
 use mathlib.Core.Path.{◌∙◌, ap, sym}
 use Rattle.changes.proofs.make.allowed.Goals as goal
 

@@ -1,5 +1,4 @@
 -- directory: the same.
-use borrow.Author.Rules.{rules}
 use Rattle.changes.proofs.make.directory.Goals as goal
 
 pub returns : goal.returns

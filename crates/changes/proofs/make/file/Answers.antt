@@ -1,5 +1,4 @@
 -- file: the same.
-use borrow.Author.Rules.{rules}
 use Rattle.changes.proofs.make.file.Goals as goal
 
 pub returns : goal.returns

@@ -2,7 +2,6 @@
 use Rattle.alloc.specs.Answers.{pair_at}
 use Rattle.changes.proofs.Making.{fill_done, fill_name, fill_none, fill_object, fill_slot_lem, name-object, new_object, object-told, pair_told, unmade-told, vacant-sound}
 use Rattle.changes.specs.Answers.{new_of}
-use borrow.Author.Rules.{rules}
 use mathlib.Core.Path.{ap}
 use native.Mathlib.Omega.{arith}
 use Rattle.changes.proofs.make.fill.Goals as goal

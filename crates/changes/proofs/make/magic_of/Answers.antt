@@ -1,6 +1,5 @@
 -- magic_of: by what is to be made.
 use Rattle.changes.specs.Answers.{magic_for, new_of}
-use borrow.Author.Rules.{rules}
 use mathlib.Core.Path.{ap, sym}
 use Rattle.changes.proofs.make.magic_of.Goals as goal
 

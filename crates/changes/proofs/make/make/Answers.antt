@@ -4,7 +4,6 @@ use Rattle.calls.proofs.Steps.{reached-above}
 use Rattle.calls.specs.Answers.{start_of}
 use Rattle.changes.proofs.Making.{last_named, make-reached, make-refused}
 use Rattle.changes.specs.Answers.{new_of}
-use borrow.Author.Rules.{rules}
 use mathlib.Core.Path.{◌∙◌, ap, sym}
 use Rattle.changes.proofs.make.make.Goals as goal
 

@@ -2,9 +2,6 @@
 use Rattle.calls.proofs.Lowest.{found-slot}
 use Rattle.calls.specs.Answers.{index_of}
 use Rattle.changes.proofs.Making.{make-filled, make_full, make-there, unmade-told}
-use Rattle.changes.specs.Changing.{directory}
-use Rattle.tree.specs.WellFormed.{name}
-use borrow.Author.Rules.{rules}
 use mathlib.Core.Path.{◌∙◌, ap, sym}
 use Rattle.changes.proofs.make.make_in.Goals as goal
 

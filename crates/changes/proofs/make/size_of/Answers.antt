@@ -2,7 +2,6 @@
 use Rattle.changes.proofs.Making.{directory-bounds, file-bounds}
 use Rattle.changes.specs.Answers.{new_of, size_for}
 use Rattle.changes.specs.Changing.{allowed}
-use borrow.Author.Rules.{rules}
 use mathlib.Core.Path.{◌∙◌, ap, sym}
 use native.Mathlib.Omega.{arith}
 use Rattle.changes.proofs.make.size_of.Goals as goal

@@ -5,7 +5,6 @@ use Rattle.changes.proofs.Making.{parent-directory, parent-file}
 use Rattle.changes.proofs.Storing.{store_none}
 use Rattle.changes.specs.Answers.{new_of}
 use Rattle.storage.proofs.Numbers.{length-be64}
-use borrow.Author.Rules.{rules}
 use lib.ListN.{length}
 use mathlib.Core.List.{List}
 use mathlib.Core.Path.{◌∙◌, ap}

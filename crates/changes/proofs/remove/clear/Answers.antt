@@ -1,7 +1,6 @@
 -- clear: the slot, the name, the object.
 use Rattle.calls.proofs.Stands.{directory-stands, slot_here, slot_read}
 use Rattle.changes.proofs.Removing.{clear_done, clear_name, clear_object, clear_slot}
-use borrow.Author.Rules.{rules}
 use Rattle.changes.proofs.remove.clear.Goals as goal
 
 pub slot_at-s-requires : goal.slot_at-s-requires

@@ -3,7 +3,6 @@ use Rattle.calls.proofs.Outcomes.{not_reached, refused_so}
 use Rattle.calls.proofs.Steps.{reached-above}
 use Rattle.calls.specs.Answers.{start_of}
 use Rattle.changes.proofs.Removing.{remove-reached, remove-refused}
-use borrow.Author.Rules.{rules}
 use mathlib.Core.Path.{◌∙◌, ap, sym}
 use Rattle.changes.proofs.remove.remove.Goals as goal
 

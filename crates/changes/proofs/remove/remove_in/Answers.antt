@@ -3,7 +3,6 @@ use Rattle.calls.proofs.Stands.{directory-stands, slot_here, slot-object, slot_r
 use Rattle.calls.specs.Answers.{ObjectAt, index_of}
 use Rattle.changes.proofs.Removing.{found-taken, remove_cleared, remove-held, remove-missing}
 use Rattle.tree.specs.Fields.{Slot}
-use borrow.Author.Rules.{rules}
 use mathlib.Core.Path.{◌∙◌, ap, subst, sym}
 use Rattle.changes.proofs.remove.remove_in.Goals as goal
 

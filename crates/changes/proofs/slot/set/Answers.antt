@@ -4,7 +4,6 @@ use Rattle.alloc.specs.Room.{after_update, with_extents}
 use Rattle.changes.proofs.Storing.{held_low, open_held, open_image, store, store_at, store_both}
 use Rattle.storage.proofs.Numbers.{length-be64}
 use Rattle.storage.specs.Bytes.{be64}
-use borrow.Author.Rules.{rules}
 use native.Mathlib.Omega.{arith}
 use Rattle.changes.proofs.slot.set.Goals as goal
 

@@ -1,6 +1,5 @@
 -- after: a character begins, or the byte is held to the range of the next follower.
 use Rattle.path.proofs.Spelling.{goes_low, goes_high, goes_on}
-use borrow.Author.Rules.{rules}
 use native.Mathlib.Omega.{arith}
 use Rattle.path.proofs.characters.after.Goals as goal
 

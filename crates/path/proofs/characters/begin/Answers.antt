@@ -1,6 +1,5 @@
 -- begin: a byte above 7F has followers, and one below stands alone, if it is allowed.
 use Rattle.path.proofs.Spelling.{goes_several, goes_alone, goes_forbidden}
-use borrow.Author.Rules.{rules}
 use mathlib.Core.Path.{sym, ◌∙◌}
 use native.Mathlib.Omega.{arith}
 use Rattle.path.proofs.characters.begin.Goals as goal

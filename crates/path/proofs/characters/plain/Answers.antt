@@ -1,9 +1,6 @@
-use Prim.Native.Nat.{◌-◌}
 use Rattle.path.proofs.Spelling.{goes_alone}
 use Rattle.path.proofs.Walk.{walk_on}
 use Rattle.path.specs.Spelling.{spelt}
-use Rattle.path.specs.Walk.{Walk}
-use lib.ListN.{length}
 use mathlib.Core.Path.{◌∙◌, refl, sym}
 use native.Mathlib.Omega.{arith}
 use Rattle.path.proofs.characters.plain.Goals as goal

@@ -1,9 +1,5 @@
-use Prim.Native.Nat.{◌-◌, ◌≤◌}
 use Rattle.path.proofs.Spelling.{passed-end}
 use Rattle.path.proofs.Walk.{walk_on, walk_stop, walk_end}
-use Rattle.path.specs.Spelling.{spelt, passed}
-use Rattle.path.specs.Walk.{Walk}
-use lib.ListN.{length}
 use mathlib.Core.Bool.{false}
 use mathlib.Core.Path.{◌∙◌}
 use native.Mathlib.Omega.{arith}

@@ -1,13 +1,8 @@
 -- spelt: the bytes passed are as they may be, and a tells what is still to come; in front nothing is.
 use Prim.Native.Nat.{◌-◌, ◌≤◌}
-use Rattle.path.proofs.Spelling.{passed-end}
-use Rattle.path.proofs.Walk.{walk_on, walk_stop, walk_end}
 use Rattle.path.specs.Spelling.{spelt, passed}
 use Rattle.path.specs.Walk.{Walk}
 use lib.ListN.{length}
-use mathlib.Core.Bool.{false}
-use mathlib.Core.Path.{◌∙◌}
-use native.Mathlib.Omega.{arith}
 use Rattle.path.proofs.characters.spelt.Given as goal
 
 abbrev pub invariant-loop-i : goal.invariant-loop-i

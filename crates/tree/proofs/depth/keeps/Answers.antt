@@ -2,7 +2,6 @@
 use Rattle.tree.proofs.Rows.{block-directory}
 use Rattle.tree.proofs.Tests.{block-other, depth-other, depth_lost, depth_low, depth_deep}
 use Rattle.tree.specs.Answers.{climbed}
-use borrow.Author.Rules.{rules}
 use mathlib.Core.Path.{sym, ap, ◌∙◌}
 use native.Mathlib.Omega.{arith}
 use Rattle.tree.proofs.depth.keeps.Goals as goal

@@ -2,7 +2,6 @@
 use Rattle.alloc.specs.Answers.{kind_magic}
 use Rattle.alloc.specs.Block.{SFde}
 use Rattle.alloc.specs.declared.objects.Kind.{Kind}
-use borrow.Author.Rules.{rules}
 use lib.Dec.{eqb}
 use mathlib.Core.Path.{sym, ap}
 use Rattle.tree.proofs.fields.is_directory.Goals as goal

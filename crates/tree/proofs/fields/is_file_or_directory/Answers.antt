@@ -2,7 +2,6 @@
 use Rattle.alloc.specs.Answers.{kind_magic}
 use Rattle.alloc.specs.Block.{SFde, SFre}
 use Rattle.alloc.specs.declared.objects.Kind.{Kind}
-use borrow.Author.Rules.{rules}
 use lib.Dec.{eqb}
 use mathlib.Core.Bool.{◌||◌}
 use mathlib.Core.Path.{sym, ap}

@@ -1,6 +1,5 @@
 -- parent_of: the directory's first ref.
 use Rattle.tree.proofs.Rows.{directory_data_size}
-use borrow.Author.Rules.{rules}
 use native.Mathlib.Omega.{arith}
 use Rattle.tree.proofs.fields.parent_of.Goals as goal
 

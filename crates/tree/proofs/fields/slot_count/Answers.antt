@@ -1,7 +1,6 @@
 -- slot_count: from the size.
 use Prim.Native.Nat.{ℕ, ◌-◌, ◌/◌}
 use Rattle.tree.proofs.Rows.{directory_data_size, directory-total}
-use borrow.Author.Rules.{rules}
 use mathlib.Core.Path.{sym, ap, ◌∙◌}
 use native.Mathlib.Omega.{arith}
 use Rattle.tree.proofs.fields.slot_count.Goals as goal

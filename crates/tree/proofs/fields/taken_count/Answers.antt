@@ -1,6 +1,4 @@
-use Prim.Native.Nat.{◌-◌}
-use Rattle.alloc.specs.Block.{block_of}
-use Rattle.tree.proofs.Rows.{Counting, counting_start, counting_on, counting_end, taken-counted, left-start, directory-is}
+use Rattle.tree.proofs.Rows.{counting_start, counting_on, counting_end, taken-counted, left-start, directory-is}
 use Rattle.tree.specs.Fields.{taken, taken_count}
 use mathlib.Core.Path.{sym, ap, ◌∙◌}
 use native.Mathlib.Omega.{arith}

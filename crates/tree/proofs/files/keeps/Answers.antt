@@ -1,6 +1,5 @@
 -- keeps: the two numbers of a file.
 use Rattle.tree.proofs.Tests.{file_data_size, file-other, file_tested}
-use borrow.Author.Rules.{rules}
 use mathlib.Core.Path.{sym, ◌∙◌}
 use native.Mathlib.Omega.{arith}
 use Rattle.tree.proofs.files.keeps.Goals as goal

@@ -1,14 +1,9 @@
-use Prim.Native.Nat.{◌-◌, ◌%◌, ◌<◌, ◌≤◌}
-use Rattle.alloc.specs.Block.{block_of}
-use Rattle.alloc.specs.Volume.{volume_of, objects}
 use Rattle.tree.proofs.Linking.{onward_unlike}
 use Rattle.tree.proofs.Printing.{apart_to, room_for}
-use Rattle.tree.proofs.Rows.{Apart, ApartFrom, apart-start, apart-end, apart_in, apart_out, apart_on, apart_next, left-start, directory-is}
+use Rattle.tree.proofs.Rows.{apart-start, apart-end, apart_in, apart_out, apart_on, apart_next, left-start, directory-is}
 use Rattle.tree.specs.Rules.{distinct}
-use lib.ListN.{get_or}
-use mathlib.Core.Bool.{not, false}
-use mathlib.Core.Logic.{⊎_elim}
-use mathlib.Core.Path.{◌≡◌, refl, sym, ap, ◌∙◌}
+use mathlib.Core.Bool.{not}
+use mathlib.Core.Path.{refl, sym, ap, ◌∙◌}
 use native.Mathlib.Omega.{arith}
 use Rattle.tree.proofs.names.distinct_along.Goals as goal
 use Rattle.tree.proofs.names.distinct_along.Goals.{else-pairs-test, then-pairs-test+then-loop-j-test+then-equal_by}
@@ -82,11 +77,11 @@ pairs-preserved c = (
 pub returns : goal.returns
 returns c =
     elim c.pairs-test.branch [
-      else-pairs-test w ↦
-        ap not (w.found-is ∙ c.pairs.invariant.0) ∙ apart-end c.pairs.invariant.1 (omega (arith, c.requires.3)) ∙ ap (distinct _)
-        (sym (left-start _ (directory-is c.requires.0.directory)))
-    | then-pairs-test+then-loop-j-test+then-equal_by w ↦
-        ap not w.found-is ∙ apart_out w.loop-j.invariant.1 (omega (arith, c.requires.3)) (omega (arith, c.requires.3))
-        (sym w.equal_by.ensures ∙ w.if-equal_by.true)
-        ∙ ap (distinct _) (sym (left-start _ (directory-is c.requires.0.directory)))
+      | else-pairs-test w ↦
+          ap not (w.found-is ∙ c.pairs.invariant.0) ∙ apart-end c.pairs.invariant.1 (omega (arith, c.requires.3)) ∙ ap (distinct _)
+          (sym (left-start _ (directory-is c.requires.0.directory)))
+      | then-pairs-test+then-loop-j-test+then-equal_by w ↦
+          ap not w.found-is ∙ apart_out w.loop-j.invariant.1 (omega (arith, c.requires.3)) (omega (arith, c.requires.3))
+          (sym w.equal_by.ensures ∙ w.if-equal_by.true)
+          ∙ ap (distinct _) (sym (left-start _ (directory-is c.requires.0.directory)))
     ]

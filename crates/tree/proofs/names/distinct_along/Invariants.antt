@@ -2,15 +2,10 @@
 use Prim.Native.Nat.{◌-◌, ◌%◌, ◌<◌, ◌≤◌}
 use Rattle.alloc.specs.Block.{block_of}
 use Rattle.alloc.specs.Volume.{volume_of, objects}
-use Rattle.tree.proofs.Linking.{onward_unlike}
-use Rattle.tree.proofs.Printing.{apart_to, room_for}
-use Rattle.tree.proofs.Rows.{Apart, ApartFrom, apart-start, apart-end, apart_in, apart_out, apart_on, apart_next, left-start, directory-is}
-use Rattle.tree.specs.Rules.{distinct}
+use Rattle.tree.proofs.Rows.{Apart, ApartFrom}
 use lib.ListN.{get_or}
-use mathlib.Core.Bool.{not, false}
-use mathlib.Core.Logic.{⊎_elim}
-use mathlib.Core.Path.{◌≡◌, refl, sym, ap, ◌∙◌}
-use native.Mathlib.Omega.{arith}
+use mathlib.Core.Bool.{false}
+use mathlib.Core.Path.{◌≡◌}
 use Rattle.tree.proofs.names.distinct_along.Given as goal
 
 abbrev pub invariant-loop-j : goal.invariant-loop-j

@@ -1,12 +1,8 @@
-use Prim.Native.Nat.{◌-◌}
-use Rattle.alloc.specs.Block.{block_of}
-use Rattle.alloc.specs.Volume.{objects, volume_of}
 use Rattle.tree.proofs.Printing.{room_for}
-use Rattle.tree.proofs.Rows.{Apart, ApartFrom, apart-end, apart_in, apart_next, apart_on, apart_out, apart-start, directory-is, left-start}
+use Rattle.tree.proofs.Rows.{apart-end, apart_in, apart_next, apart_on, apart_out, apart-start, directory-is, left-start}
 use Rattle.tree.specs.Rules.{distinct}
-use mathlib.Core.Bool.{false, not}
-use mathlib.Core.Logic.{⊎_elim}
-use mathlib.Core.Path.{◌∙◌, ◌≡◌, ap, refl, sym}
+use mathlib.Core.Bool.{not}
+use mathlib.Core.Path.{◌∙◌, ap, refl, sym}
 use native.Mathlib.Omega.{arith}
 use Rattle.tree.proofs.names.distinct_by.Goals as goal
 use Rattle.tree.proofs.names.distinct_by.Goals.{else-pairs-test, then-pairs-test+then-loop-j-test+then-equal_by}
@@ -58,11 +54,11 @@ pairs-preserved c = (
 pub returns : goal.returns
 returns c =
     elim c.pairs-test.branch [
-      else-pairs-test w ↦
-        ap not (w.found-is ∙ c.pairs.invariant.0) ∙ apart-end c.pairs.invariant.1 (omega (arith, c.requires.2)) ∙ ap (distinct _)
-        (sym (left-start _ (directory-is c.requires.0.directory)))
-    | then-pairs-test+then-loop-j-test+then-equal_by w ↦
-        ap not w.found-is ∙ apart_out w.loop-j.invariant.1 (omega (arith, c.requires.2)) (omega (arith, c.requires.2))
-        (sym w.equal_by.ensures ∙ w.if-equal_by.true)
-        ∙ ap (distinct _) (sym (left-start _ (directory-is c.requires.0.directory)))
+      | else-pairs-test w ↦
+          ap not (w.found-is ∙ c.pairs.invariant.0) ∙ apart-end c.pairs.invariant.1 (omega (arith, c.requires.2)) ∙ ap (distinct _)
+          (sym (left-start _ (directory-is c.requires.0.directory)))
+      | then-pairs-test+then-loop-j-test+then-equal_by w ↦
+          ap not w.found-is ∙ apart_out w.loop-j.invariant.1 (omega (arith, c.requires.2)) (omega (arith, c.requires.2))
+          (sym w.equal_by.ensures ∙ w.if-equal_by.true)
+          ∙ ap (distinct _) (sym (left-start _ (directory-is c.requires.0.directory)))
     ]

@@ -2,13 +2,9 @@
 use Prim.Native.Nat.{◌-◌}
 use Rattle.alloc.specs.Block.{block_of}
 use Rattle.alloc.specs.Volume.{objects, volume_of}
-use Rattle.tree.proofs.Printing.{room_for}
-use Rattle.tree.proofs.Rows.{Apart, ApartFrom, apart-end, apart_in, apart_next, apart_on, apart_out, apart-start, directory-is, left-start}
-use Rattle.tree.specs.Rules.{distinct}
-use mathlib.Core.Bool.{false, not}
-use mathlib.Core.Logic.{⊎_elim}
-use mathlib.Core.Path.{◌∙◌, ◌≡◌, ap, refl, sym}
-use native.Mathlib.Omega.{arith}
+use Rattle.tree.proofs.Rows.{Apart, ApartFrom}
+use mathlib.Core.Bool.{false}
+use mathlib.Core.Path.{◌≡◌}
 use Rattle.tree.proofs.names.distinct_by.Given as goal
 
 abbrev pub invariant-loop-j : goal.invariant-loop-j

@@ -1,6 +1,5 @@
 -- equal_by: names whose bits differ are not equal.
 use Rattle.tree.proofs.Printing.{unlike_names}
-use borrow.Author.Rules.{rules}
 use mathlib.Core.Path.{sym}
 use Rattle.tree.proofs.names.equal_by.Goals as goal
 

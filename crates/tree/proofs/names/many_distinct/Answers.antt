@@ -1,7 +1,6 @@
 -- many_distinct: rows for 1,024 slots.
 use Rattle.tree.proofs.Linking.{zeros-at}
 use Rattle.tree.proofs.Printing.{few-slots}
-use borrow.Author.Rules.{rules}
 use native.Mathlib.Omega.{arith}
 use Rattle.tree.proofs.names.many_distinct.Goals as goal
 

@@ -1,6 +1,5 @@
 -- some_distinct: rows for 64 slots.
 use Rattle.tree.proofs.Linking.{zeros-at}
-use borrow.Author.Rules.{rules}
 use native.Mathlib.Omega.{arith}
 use Rattle.tree.proofs.names.some_distinct.Goals as goal
 

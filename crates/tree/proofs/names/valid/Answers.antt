@@ -1,6 +1,5 @@
 -- valid: the data as a part of the image.
 use Rattle.path.specs.Name.{valid_name}
-use borrow.Author.Rules.{rules}
 use mathlib.Core.Path.{ap, ◌∙◌}
 use Rattle.tree.proofs.names.valid.Goals as goal
 

@@ -1,5 +1,4 @@
 -- count: the mark is read, and stored anew.
-use borrow.Author.Rules.{rules}
 use lib.ListN.{set}
 use mathlib.Core.Path.{ap}
 use Rattle.tree.proofs.naming.count.Goals as goal

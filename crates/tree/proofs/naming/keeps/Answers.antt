@@ -1,5 +1,4 @@
 -- keeps: the state in the mark.
-use borrow.Author.Rules.{rules}
 use borrow.Author.Tests.{eq-eqb, ne_eqb}
 use mathlib.Core.Path.{sym}
 use Rattle.tree.proofs.naming.keeps.Goals as goal

@@ -1,8 +1,6 @@
 -- may_name: by the kind of what is named.
 use Rattle.tree.proofs.Noting.{right_other, right_parent}
 use Rattle.tree.proofs.Tests.{kind-directory, kind-is}
-use borrow.Author.Rules.{rules}
-use borrow.Author.Tests.{not-true, not-false}
 use mathlib.Core.Path.{sym, ◌∙◌}
 use Rattle.tree.proofs.naming.may_name.Goals as goal
 

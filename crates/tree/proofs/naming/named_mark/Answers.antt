@@ -1,7 +1,6 @@
 -- named_mark: the first naming, and rightly, or any other.
 use Rattle.storage.proofs.Booleans.{and_true}
 use Rattle.tree.specs.Marks.{named_mark}
-use borrow.Author.Rules.{rules}
 use borrow.Author.Tests.{ltb-true}
 use lib.Dec.{ltb}
 use mathlib.Core.Path.{sym}

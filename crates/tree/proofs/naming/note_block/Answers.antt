@@ -1,6 +1,5 @@
 -- note_block: a directory, or what has no slots.
 use Rattle.tree.proofs.Noting.{noted_none}
-use borrow.Author.Rules.{rules}
 use mathlib.Core.Path.{◌∙◌}
 use Rattle.tree.proofs.naming.note_block.Goals as goal
 

@@ -1,6 +1,5 @@
 -- note_slot: an empty slot names nothing; a taken one its name and its object.
 use Rattle.tree.proofs.Noting.{noted-empty, refs-inside, noted-taken}
-use borrow.Author.Rules.{rules}
 use lib.ListN.{length, length-set}
 use mathlib.Core.Path.{ap}
 use native.Mathlib.Omega.{arith}

@@ -1,6 +1,6 @@
-use Prim.Native.Nat.{◌-◌, ◌<◌}
+use Prim.Native.Nat.{◌<◌}
 use Rattle.alloc.specs.Block.{block_of}
-use Rattle.tree.proofs.Noting.{Notes, notes_start, notes_on, notes_all, slot_here}
+use Rattle.tree.proofs.Noting.{notes_start, notes_on, notes_all, slot_here}
 use Rattle.tree.proofs.Rows.{directory-is}
 use Rattle.tree.specs.Fields.{total}
 use mathlib.Core.Path.{refl}

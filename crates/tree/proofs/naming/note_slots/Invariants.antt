@@ -1,11 +1,7 @@
 -- note_slots: slot after slot.
-use Prim.Native.Nat.{◌-◌, ◌<◌}
+use Prim.Native.Nat.{◌-◌}
 use Rattle.alloc.specs.Block.{block_of}
-use Rattle.tree.proofs.Noting.{Notes, notes_start, notes_on, notes_all, slot_here}
-use Rattle.tree.proofs.Rows.{directory-is}
-use Rattle.tree.specs.Fields.{total}
-use mathlib.Core.Path.{refl}
-use native.Mathlib.Omega.{arith}
+use Rattle.tree.proofs.Noting.{Notes}
 use Rattle.tree.proofs.naming.note_slots.Given as goal
 
 abbrev pub invariant-loop-i : goal.invariant-loop-i

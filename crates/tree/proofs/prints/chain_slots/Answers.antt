@@ -1,4 +1,4 @@
-use Rattle.tree.proofs.Linking.{Linking, linking_start, linking_on, linking_end}
+use Rattle.tree.proofs.Linking.{linking_start, linking_on, linking_end}
 use native.Mathlib.Omega.{arith}
 use Rattle.tree.proofs.prints.chain_slots.Goals as goal
 

@@ -1,6 +1,5 @@
 -- chain_slots: from the last slot to the first.
-use Rattle.tree.proofs.Linking.{Linking, linking_start, linking_on, linking_end}
-use native.Mathlib.Omega.{arith}
+use Rattle.tree.proofs.Linking.{Linking}
 use Rattle.tree.proofs.prints.chain_slots.Given as goal
 
 abbrev pub invariant-loop-i : goal.invariant-loop-i

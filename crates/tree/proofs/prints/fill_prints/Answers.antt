@@ -1,5 +1,4 @@
-use Prim.Native.Nat.{◌-◌}
-use Rattle.tree.proofs.Printing.{Filling, filling_start, filling_on}
+use Rattle.tree.proofs.Printing.{filling_start, filling_on}
 use Rattle.tree.proofs.Rows.{slot-inside}
 use native.Mathlib.Omega.{arith}
 use Rattle.tree.proofs.prints.fill_prints.Goals as goal

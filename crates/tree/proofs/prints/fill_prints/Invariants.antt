@@ -1,8 +1,6 @@
 -- fill_prints: slot after slot.
 use Prim.Native.Nat.{◌-◌}
-use Rattle.tree.proofs.Printing.{Filling, filling_start, filling_on}
-use Rattle.tree.proofs.Rows.{slot-inside}
-use native.Mathlib.Omega.{arith}
+use Rattle.tree.proofs.Printing.{Filling}
 use Rattle.tree.proofs.prints.fill_prints.Given as goal
 
 abbrev pub invariant-loop-i : goal.invariant-loop-i

@@ -1,6 +1,5 @@
 -- print_at: the data as a part of the image.
 use Rattle.tree.specs.Prints.{print_of}
-use borrow.Author.Rules.{rules}
 use mathlib.Core.Path.{ap, ◌∙◌}
 use Rattle.tree.proofs.prints.print_at.Goals as goal
 

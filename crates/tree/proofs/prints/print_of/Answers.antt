@@ -1,6 +1,4 @@
-use Prim.Native.Nat.{◌-◌}
-use Rattle.tree.proofs.Printing.{Prints, prints-start, prints_on, prints-end}
-use lib.ListN.{length}
+use Rattle.tree.proofs.Printing.{prints-start, prints_on, prints-end}
 use native.Mathlib.Omega.{arith}
 use Rattle.tree.proofs.prints.print_of.Goals as goal
 

@@ -1,8 +1,7 @@
 -- print_of: byte after byte.
 use Prim.Native.Nat.{◌-◌}
-use Rattle.tree.proofs.Printing.{Prints, prints-start, prints_on, prints-end}
+use Rattle.tree.proofs.Printing.{Prints}
 use lib.ListN.{length}
-use native.Mathlib.Omega.{arith}
 use Rattle.tree.proofs.prints.print_of.Given as goal
 
 abbrev pub invariant-loop-i : goal.invariant-loop-i

@@ -1,6 +1,5 @@
 -- slot_print: an empty slot, or its name.
 use Rattle.tree.proofs.Printing.{print_empty, print_stands, print_taken}
-use borrow.Author.Rules.{rules}
 use native.Mathlib.Omega.{arith}
 use Rattle.tree.proofs.prints.slot_print.Goals as goal
 

@@ -2,11 +2,7 @@
 use Prim.Native.Nat.{◌-◌}
 use Rattle.alloc.specs.Block.{block_of}
 use Rattle.alloc.specs.Volume.{volume_of, objects}
-use Rattle.tree.proofs.Rows.{Standing-so_far, stood_on, stood_out, stood_end, left-start, directory-is}
-use Rattle.tree.specs.Rules.{slot_stands, slots_stand}
-use borrow.Author.Tests.{not-true, not-false}
-use mathlib.Core.Path.{refl, sym, ap, ◌∙◌}
-use native.Mathlib.Omega.{arith}
+use Rattle.tree.proofs.Rows.{Standing-so_far}
 use Rattle.tree.proofs.slots.all_stand.Given as goal
 
 abbrev pub invariant-loop-i : goal.invariant-loop-i

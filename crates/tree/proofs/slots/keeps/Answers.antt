@@ -1,7 +1,6 @@
 -- keeps: what is no directory has no slots.
 use Rattle.tree.proofs.Rows.{no_slots}
 use Rattle.tree.specs.Rules.{slots_stand}
-use borrow.Author.Rules.{rules}
 use mathlib.Core.Path.{sym, ap, ◌∙◌}
 use native.Mathlib.Omega.{arith}
 use Rattle.tree.proofs.slots.keeps.Goals as goal

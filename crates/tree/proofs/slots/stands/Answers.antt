@@ -1,8 +1,6 @@
 -- stands: empty, half taken, or by the kinds that its refs name.
 use Rattle.alloc.specs.Volume.{volume_of, objects}
 use Rattle.tree.proofs.Tests.{slot_unnamed, slot_half, slot_nameless, slot_full}
-use borrow.Author.Rules.{rules}
-use borrow.Author.Tests.{not-true, not-false}
 use mathlib.Core.Path.{sym, ◌∙◌}
 use Rattle.tree.proofs.slots.stands.Goals as goal
 

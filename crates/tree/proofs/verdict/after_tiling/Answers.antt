@@ -4,8 +4,6 @@ use Rattle.tree.proofs.Judging.{hold_start, judged_broken, judged_blocks, judged
 use Rattle.tree.proofs.Noting.{annotated_none}
 use Rattle.tree.specs.Answers.{breach_at}
 use Rattle.tree.specs.Verdict.{rule3}
-use borrow.Author.Rules.{rules}
-use borrow.Author.Tests.{not-false, not-true}
 use mathlib.Core.Path.{◌∙◌, sym, refl, ap}
 use native.Mathlib.Omega.{arith}
 use Rattle.tree.proofs.verdict.after_tiling.Goals as goal

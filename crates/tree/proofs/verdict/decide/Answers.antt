@@ -1,7 +1,6 @@
 -- decide: rule 1, then the others.
 use Rattle.alloc.specs.Answers.{breaker}
 use Rattle.tree.proofs.Whole.{decides-broken, whole_fresh, decides-after}
-use borrow.Author.Rules.{rules}
 use mathlib.Core.Path.{ap}
 use Rattle.tree.proofs.verdict.decide.Goals as goal
 

@@ -1,13 +1,8 @@
-use Prim.Native.Nat.{◌-◌}
 use Rattle.alloc.proofs.Cuts.{cut_fits, cut_standing}
 use Rattle.alloc.specs.Volume.{volume_of, objects}
 use Rattle.tree.proofs.Noting.{rule_4_here}
-use Rattle.tree.proofs.Visits.{Visits, visits_start, visits_on, visits_broken, visits_end, visited_holds}
-use Rattle.tree.specs.Answers.{rule_of}
+use Rattle.tree.proofs.Visits.{visits_start, visits_on, visits_broken, visits_end, visited_holds}
 use Rattle.tree.specs.Verdict.{keeps, rule3}
-use borrow.Author.Rules.{rules}
-use borrow.Author.Tests.{not-true, not-false}
-use lib.ListN.{length}
 use native.Mathlib.Omega.{arith}
 use Rattle.tree.proofs.verdict.first_breaker.Goals as goal
 

@@ -1,9 +1,5 @@
-use Prim.Native.Nat.{◌-◌}
 use Rattle.alloc.proofs.Cuts.{cut_fits, cut_standing}
-use Rattle.tree.proofs.Joint.{SlotsSo, slots-start, slots_on, slots-broken, slots_end}
-use borrow.Author.Rules.{rules}
-use borrow.Author.Tests.{not-true, not-false}
-use lib.ListN.{length}
+use Rattle.tree.proofs.Joint.{slots-start, slots_on, slots-broken, slots_end}
 use mathlib.Core.Path.{◌∙◌, sym}
 use native.Mathlib.Omega.{arith}
 use Rattle.tree.proofs.verdict.first_unslotted.Goals as goal

@@ -1,6 +1,5 @@
 -- judge_marked: the marks are cleared, or without what was counted.
 use Rattle.tree.proofs.Whole.{judges_broken, judges_kept}
-use borrow.Author.Rules.{rules}
 use Rattle.tree.proofs.verdict.judge_marked.Goals as goal
 
 pub returns-then-v-ne0 : goal.returns-then-v-ne0

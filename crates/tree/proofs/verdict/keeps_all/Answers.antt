@@ -2,7 +2,6 @@
 use Rattle.tree.proofs.Joint.{not_so, kept_free, kept-name, kept-file, kept-directory}
 use Rattle.tree.proofs.Whole.{never_true}
 use Rattle.tree.specs.Verdict.{rule4, rule5, rule6}
-use borrow.Author.Tests.{not-false}
 use mathlib.Core.Path.{refl, sym, ◌∙◌}
 use native.Mathlib.Omega.{arith}
 use Rattle.tree.proofs.verdict.keeps_all.Goals as goal

@@ -5,7 +5,6 @@ use Rattle.tree.proofs.Visits.{spared-free, spared_other}
 use Rattle.tree.specs.Answers.{rule_of}
 use Rattle.tree.specs.Verdict.{keeps}
 use Rattle.tree.specs.declared.verdict.Rule.{Rule}
-use borrow.Author.Rules.{rules}
 use mathlib.Core.Path.{sym, ap, ◌∙◌}
 use native.Mathlib.Omega.{arith}
 use Rattle.tree.proofs.verdict.keeps_rule.Goals as goal

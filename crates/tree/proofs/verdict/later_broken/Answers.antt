@@ -1,9 +1,6 @@
-use Prim.Native.Nat.{◌-◌, ◌≤◌}
-use Rattle.alloc.specs.Volume.{objects, volume_of}
-use Rattle.tree.proofs.Judging.{HoldBelow, hold_on, hold_start, judged_broken, judged_kept, ready_below}
+use Rattle.tree.proofs.Judging.{hold_on, hold_start, judged_broken, judged_kept, ready_below}
 use Rattle.tree.specs.Answers.{breach_at, rule_of}
 use Rattle.tree.specs.Verdict.{rule3}
-use borrow.Author.Rules.{rules}
 use mathlib.Core.Path.{◌∙◌, ap, sym, refl}
 use native.Mathlib.Omega.{arith}
 use Rattle.tree.proofs.verdict.later_broken.Goals as goal

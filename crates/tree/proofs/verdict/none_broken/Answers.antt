@@ -1,17 +1,12 @@
-use Prim.Native.Nat.{◌-◌}
 use Rattle.alloc.proofs.Cuts.{cut_fits, cut_standing}
-use Rattle.alloc.proofs.Links.{Links, links-start, links_end, links-other, links-free}
+use Rattle.alloc.proofs.Links.{links-start, links_end, links-other, links-free}
 use Rattle.alloc.specs.Volume.{volume_of, objects}
 use Rattle.storage.specs.declared.Ref.{Ref}
 use Rattle.tree.proofs.Joint.{kept_free}
 use Rattle.tree.proofs.Noting.{rule_4_here}
 use Rattle.tree.proofs.Visits.{visited_holds}
-use Rattle.tree.proofs.Whole.{WalksAll, walks_start, walks_on, walks_end, never_true}
+use Rattle.tree.proofs.Whole.{walks_start, walks_on, walks_end, never_true}
 use Rattle.tree.specs.Verdict.{keeps, rule3, rule4}
-use borrow.Author.Rules.{rules}
-use borrow.Author.Tests.{not-false}
-use lib.ListN.{length}
-use mathlib.Core.Logic.{⊎_elim}
 use mathlib.Core.Path.{◌∙◌, sym, ap}
 use native.Mathlib.Omega.{arith}
 use Rattle.tree.proofs.verdict.none_broken.Goals as goal
@@ -69,15 +64,15 @@ loop-at-preserved c =
     let l = c.loop-at.invariant in
     let m = c.magic_at.ensures in
     elim c.if-magic_at-eq-SFFR.branch [
-      then-magic_at-eq-SFFR+else-behind-next w ↦ let f = sym m ∙ w.if-magic_at-eq-SFFR.true in (
+      | then-magic_at-eq-SFFR+else-behind-next w ↦ let f = sym m ∙ w.if-magic_at-eq-SFFR.true in (
         walks_on l.0 (omega arith) (kept_free _ _ _ f) _ _ c.after-r.ensures c.start-at-in-loop-at.ensures,
         links-free l.1 (omega arith) f w.if-behind-next.false _ _ _ _ w.behind-is (ap (λ (x : Ref). x.0) w.next-is ∙ w.next_of-next.ensures)
-        c.after-r.ensures c.start-at-in-loop-at.ensures,
+            c.after-r.ensures c.start-at-in-loop-at.ensures,
       )
-    | else-magic_at-eq-SFFR+else-not-keeps_all w ↦ (
+      | else-magic_at-eq-SFFR+else-not-keeps_all w ↦ (
         walks_on l.0 (omega arith) (w.keeps_all.ensures w.if-not-keeps_all.false) _ _ c.after-r.ensures c.start-at-in-loop-at.ensures,
         links-other l.1 (omega arith) (λ e. w.if-magic_at-eq-SFFR.false (m ∙ e)) _ _ _ _ w.behind-is (ap (λ (x : Ref). x.0) w.next-is)
-        c.after-r.ensures c.start-at-in-loop-at.ensures,
+            c.after-r.ensures c.start-at-in-loop-at.ensures,
       )
     ]
 

@@ -1,7 +1,5 @@
 -- root_stands: a directory, and its parent.
 use Rattle.tree.proofs.Tests.{kind-directory, root-other, root-directory}
-use borrow.Author.Rules.{rules}
-use borrow.Author.Tests.{not-true, not-false}
 use mathlib.Core.Path.{sym, ◌∙◌}
 use Rattle.tree.proofs.verdict.root_stands.Goals as goal
 

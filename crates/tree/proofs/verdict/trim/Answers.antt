@@ -1,5 +1,4 @@
-use Prim.Native.Nat.{◌-◌}
-use Rattle.tree.proofs.Noting.{Trims, trims_start, trims_on, trims_end}
+use Rattle.tree.proofs.Noting.{trims_start, trims_on, trims_end}
 use native.Mathlib.Omega.{arith}
 use Rattle.tree.proofs.verdict.trim.Goals as goal
 

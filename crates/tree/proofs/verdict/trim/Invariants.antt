@@ -1,7 +1,6 @@
 -- trim: mark after mark.
 use Prim.Native.Nat.{◌-◌}
-use Rattle.tree.proofs.Noting.{Trims, trims_start, trims_on, trims_end}
-use native.Mathlib.Omega.{arith}
+use Rattle.tree.proofs.Noting.{Trims}
 use Rattle.tree.proofs.verdict.trim.Given as goal
 
 abbrev pub invariant-loop-i : goal.invariant-loop-i
