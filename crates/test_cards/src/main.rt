@@ -32,16 +32,14 @@ fn list_argument(rt: &(impl Print + Files + Env), i: usize) -> io::Result<()> {
     list_file(rt, &path[..n])
 }
 
-// How many arguments there are, with the program's name.
+// How many arguments there are, the program's name among them.
 fn argument_count(rt: &impl Env) -> usize {
-    let mut n: usize = 0;
-    while n < usize::MAX {
+    for n in 0..usize::MAX {
         if let Err(FillError::NotPresent) = rt.arg(n, &mut []) {
-            break;
+            return n;
         }
-        n += 1;
     }
-    n
+    usize::MAX
 }
 
 fn list_arguments(rt: &(impl Print + Files + Env)) -> io::Result<()> {
