@@ -19,7 +19,8 @@
    nothing between calls, and has no memory but what is lent and the stack.
 
    Cost. A call costs three passes over the headers of the image's blocks: on the machine of the measurements 0.7 ms for
-   a full card of 1 MiB, 0.08 ms for one of 1 MiB with a thousand files, 5 microseconds for a typical one of 64 KiB. A
+   a full card of 1 MiB, 0.08 ms for one of 1 MiB with a thousand files, 5 microseconds for a typical one of 64 KiB (with
+   an older compiler; not measured again). A
    listing adds up to a half of that, a make or remove a few passes along the free blocks. Only names chosen to be hard
    to tell apart cost more: 40 ms for 1 MiB of them. Format looks at no old byte, and writes the whole image.
 

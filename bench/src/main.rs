@@ -1,6 +1,6 @@
 //! How long the calls take: the proved store beside a plain Rust program, and on larger and larger cards.
 //!
-//!     rt staticlib sffs1 && cargo run --release --manifest-path bench/Cargo.toml
+//!     tools/staticlib && cargo run --release --manifest-path bench/Cargo.toml
 //!
 //! First the stores are compared on damaged cards, in histories of calls and on cards of gaps (alone: with the
 //! argument `agree`, and a count of damaged cards). Then come lines `ratio CALL CARD NUMBER`, our time / the

@@ -13,7 +13,7 @@ use Rattle.storage.specs.Bytes.{same}
 use Rattle.storage.proofs.Booleans.{and_true}
 use Rattle.path.proofs.ValidNames.{valid-name}
 use Rattle.alloc.specs.Volume.{Objects, block_at}
-use Rattle.tree.specs.Fields.{Slot, is_dir, is_file, is_name, parent, slot_at, slots, taken, total}
+use Rattle.tree.specs.Fields.{Slot, is_dir, is_file, parent, slot_at, slots, taken, total}
 use Rattle.tree.specs.Rules.{distinct, name_in}
 use Rattle.tree.specs.Verdict.{BlockRule, rule3, rule4, rule5, rule6, rule7}
 use Rattle.tree.specs.WellFormed.{Climbs, Every, EveryObject, Keeps, Names, RootStands, SlotStands, is-empty, is-taken}

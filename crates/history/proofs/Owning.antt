@@ -15,7 +15,6 @@ use Rattle.alloc.specs.Volume.{Extent, allocated, first_free, free, image, objec
 use Rattle.alloc.proofs.Cuts.{first_two}
 use Rattle.alloc.proofs.Data.{size-at, sound_back, sound-front}
 use Rattle.alloc.proofs.Heads.{end-append, end_ge, volume}
-use Rattle.alloc.proofs.Plans.{post}
 use Rattle.alloc.proofs.Soundness.{sound-tiled}
 use Rattle.alloc.proofs.Walks.{first-free_le, gap-next, gap-size, sound-first}
 use Rattle.history.specs.Claim.{Owner, chain_from, owned, owner_at}

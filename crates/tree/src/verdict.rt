@@ -275,6 +275,7 @@ pub fn judge_marked(image: &[u8], marks: &mut [u8]) -> Verdict
 }
 
 // Up to 64 units.
+#[inline(never)]
 fn judge_small(image: &[u8]) -> Verdict
     requires { length image.now ≤ 1024 }
     ensures { verdict_of result ≡ verdict image.now }
@@ -284,6 +285,7 @@ fn judge_small(image: &[u8]) -> Verdict
 }
 
 // Up to 4,096 units.
+#[inline(never)]
 fn judge_middle(image: &[u8]) -> Verdict
     requires { length image.now ≤ 65536 }
     ensures { verdict_of result ≡ verdict image.now }
@@ -293,6 +295,7 @@ fn judge_middle(image: &[u8]) -> Verdict
 }
 
 // Up to 65,536 units, the most that an image may have.
+#[inline(never)]
 fn judge_large(image: &[u8]) -> Verdict
     requires { length image.now ≤ 1048576 }
     ensures { verdict_of result ≡ verdict image.now }
@@ -301,8 +304,8 @@ fn judge_large(image: &[u8]) -> Verdict
     decide(image, &mut marks)
 }
 
-// The verdict, for any bytes. A length past all that are allowed is as wrong as none. (The compiler merges no row of marks into the frame of a
-// function that calls itself, so that a small image needs little stack.)
+// The verdict, for any bytes. A length past all that are allowed is as wrong as none. (No row of marks is merged into its frame, so that a small
+// image needs little stack.)
 pub fn judge(image: &[u8]) -> Verdict
     ensures { verdict_of result ≡ verdict image.now }
 {

@@ -1,7 +1,6 @@
 -- line_of: the kind that is read, and what is given.
 use Rattle.calls.specs.Reading.{Kind}
 use Rattle.history.specs.Listing.{line_of}
-use borrow.Author.Rules.{rules}
 use mathlib.Core.Path.{ap}
 use Rattle.listing.proofs.lines.line_of.Goals as goal
 

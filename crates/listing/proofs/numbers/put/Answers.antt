@@ -1,7 +1,6 @@
 -- put: seven stores are a splice.
 use Rattle.listing.proofs.Storing.{store_seven}
 use Rattle.storage.specs.Bytes.{splice}
-use borrow.Author.Rules.{rules}
 use lib.ListN.{length-set}
 use mathlib.Core.List.{[], ◌∷◌}
 use mathlib.Core.Path.{◌∙◌}

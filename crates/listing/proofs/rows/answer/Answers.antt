@@ -1,7 +1,6 @@
 -- answer: by what check answers, and the count.
 use Rattle.calls.proofs.Checking.{checked_broken, checked_formed}
 use Rattle.listing.proofs.Call.{answer_all, answer_broken, answer_short}
-use borrow.Author.Rules.{rules}
 use Rattle.listing.proofs.rows.answer.Goals as goal
 
 pub returns-then-number-ne0 : goal.returns-then-number-ne0

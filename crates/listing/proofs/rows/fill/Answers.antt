@@ -1,5 +1,4 @@
-use Rattle.std.proofs.Common.{◌≡◌, ◌<◌, ◌+◌, length, refl, sym, ap, ◌∙◌, subst, set, suc, arith, add-one}
-use Rattle.listing.specs.Answers.{line_no}
+use Rattle.std.proofs.Common.{◌≡◌, refl, sym, ap, ◌∙◌, set, arith, add-one}
 use Rattle.listing.proofs.Stored.{after, after_is, line-stored}
 use Rattle.listing.proofs.Cursors.{at-line, at_next, at-start, at_there}
 use Rattle.listing.proofs.rows.fill.Goals as goal

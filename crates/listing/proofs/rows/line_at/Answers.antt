@@ -1,7 +1,6 @@
 -- line_at: the line that is found; one is.
 use Rattle.listing.proofs.Cursors.{next-line, next_none}
 use Rattle.listing.specs.Answers.{seen_of}
-use borrow.Author.Rules.{rules}
 use mathlib.Core.Path.{ap}
 use Rattle.listing.proofs.rows.line_at.Goals as goal
 

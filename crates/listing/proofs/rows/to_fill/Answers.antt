@@ -1,5 +1,4 @@
 -- to_fill: by the refusal.
-use borrow.Author.Rules.{rules}
 use borrow.Author.Tests.{eq-eqb, ne_eqb}
 use mathlib.Core.Path.{◌∙◌, sym}
 use Rattle.listing.proofs.rows.to_fill.Goals as goal

@@ -1,11 +1,7 @@
 -- object and slots: slots have twice their object's levels as measure, an object one more; the loop passes a slot in each turn.
-use Prim.Native.Nat.{ℕ, ◌<◌}
-use Prim.Native.Nat.{◌*◌, ◌+◌, ◌-◌}
-use Rattle.alloc.specs.Volume.{objects, volume_of}
 use Rattle.listing.proofs.Held.{gone_few, gone_is, gone_levels, gone_object, gone_read, gone_slot}
-use Rattle.listing.proofs.Seeking.{Passing, goes_begun, goes_own, passing_empty, passing_end, passing_found, passing_on, passing_start}
+use Rattle.listing.proofs.Seeking.{goes_begun, goes_own, passing_empty, passing_end, passing_found, passing_on, passing_start}
 use Rattle.listing.specs.Answers.{seen_of}
-use borrow.Author.Rules.{rules}
 use mathlib.Core.Path.{ap}
 use native.Mathlib.Omega.{arith}
 use Rattle.listing.proofs.seek.+object_slots.Goals as goal

@@ -1,9 +1,7 @@
 -- place: two numbers are set.
-use Prim.Native.Nat.{ℕ}
 use Rattle.listing.proofs.Seeking.{placed}
-use borrow.Author.Rules.{rules}
-use lib.ListN.{length, length-map}
-use mathlib.Core.Path.{◌∙◌, ◌≡◌, sym}
+use lib.ListN.{length}
+use mathlib.Core.Path.{◌≡◌}
 use native.Mathlib.Omega.{arith}
 use Rattle.listing.proofs.seek.place.Goals as goal
 

@@ -1,11 +1,7 @@
 -- object and slots: slots have twice their object's levels as measure, an object one more; the loop stores the lines of a slot in each turn.
-use Prim.Native.Nat.{ℕ, ◌<◌}
-use Prim.Native.Nat.{◌*◌, ◌+◌, ◌-◌}
-use Rattle.alloc.specs.Volume.{objects, volume_of}
 use Rattle.calls.proofs.Stands.{no_directory, object-at as object-stands}
 use Rattle.listing.proofs.Held.{gone_empty, gone_levels, gone_object, gone_read, gone_room, gone_taken, held_none}
-use Rattle.listing.proofs.Storing.{Storing, object-behind, storing_as, storing_end, storing_on, storing_start, stores_file, stores_object}
-use Rattle.listing.specs.Held.{held_lines}
+use Rattle.listing.proofs.Storing.{object-behind, storing_as, storing_end, storing_on, storing_start, stores_file, stores_object}
 use mathlib.Core.Path.{◌∙◌}
 use native.Mathlib.Omega.{arith}
 use Rattle.listing.proofs.walk.+object_slots.Goals as goal

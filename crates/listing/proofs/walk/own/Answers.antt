@@ -1,6 +1,5 @@
 -- own: the line is past the last, or it is stored.
 use Rattle.listing.proofs.Storing.{stores_line, stores_past}
-use borrow.Author.Rules.{rules}
 use native.Mathlib.Omega.{arith}
 use Rattle.listing.proofs.walk.own.Goals as goal
 
