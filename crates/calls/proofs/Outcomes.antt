@@ -1,6 +1,8 @@
 -- The calls that change nothing, by how they begin.
 use Rattle.calls.specs.declared.walk.Start as declared-start
 use Rattle.calls.specs.declared.walk.Start.TheVariants.{Refused, Reached}
+use Rattle.calls.specs.contracts.walk.Start as declared
+use denote.Enum.Declared.{tag_of}
 use Prim.Native.Nat.{◌<◌, ℕ}
 use mathlib.Core.Bool.{Bool, cond, false, true}
 use mathlib.Core.List.{List}
@@ -90,6 +92,10 @@ reached-number s path n r e =
     omega (arith, leb-true 1 n a.0, leb-true n 4096 a.1)
 
 -- a beginning that is told to reach nothing
-pub not_reached : (x : declared-start.Start) → ((q : Ref) → x ≡ Reached q → ⊥) → (r : ℕ) → start_of x ≡ reached r → ⊥
+pub not_reached : (x : declared-start.Start) → tag_of declared.the_type x ≡ 0 → (r : ℕ) → start_of x ≡ reached r → ⊥
 not_reached (Refused n) k r e = let z : ◌≡◌ {A = ℕ} 0 1 = cc in omega arith
-not_reached (Reached q) k r e = absurd (k q refl)
+not_reached (Reached q) k r e = let z : ◌≡◌ {A = ℕ} 1 0 = k in omega arith
+
+pub never_reached : (x : declared-start.Start) → ((q : Ref) → x ≡ Reached q → ⊥) → (r : ℕ) → start_of x ≡ reached r → ⊥
+never_reached (Refused n) k r e = not_reached (Refused n) refl r e
+never_reached (Reached q) k r e = absurd (k q refl)

@@ -1,5 +1,5 @@
 -- write_u32: four stores are a splice.
-use Rattle.storage.proofs.Runs.{store_32}
+use Rattle.storage.proofs.Runs.{store_shifted_32}
 use lib.ListN.{length-set}
 use native.Mathlib.Omega.{arith}
 use Rattle.storage.proofs.write_u32.Goals as goal
@@ -16,4 +16,4 @@ bounds-s-at-4 c = simp length-set (omega arith)
 pub returns : goal.returns
 returns c =
     let s = c in
-    store_32 s.args.s.now s.args.o.0 s.args.n _ _ _ _ s.requires c.low.ensures c.low-2.ensures c.low-3.ensures c.low-4.ensures
+    store_shifted_32 s.args.s.now s.args.o.0 s.args.n _ _ _ _ s.requires c.low.ensures c.low-2.ensures c.low-3.ensures c.low-4.ensures

@@ -1,5 +1,5 @@
 -- write_u64: two halves are one splice.
-use Rattle.storage.proofs.Runs.{store_64}
+use Rattle.storage.proofs.Runs.{store_shifted_64}
 use lib.Bits.{and_mask, and_le_r}
 use lib.Dec.{lit<}
 use mathlib.Core.Path.{refl}
@@ -12,5 +12,5 @@ overflow_cast-low c = record { fits = lt_of_le_of_lt (and_le_r c.args.n _) (lit<
 pub returns : goal.returns
 returns c =
     let s = c in
-    store_64 s.args.s.now _ _ s.args.o.0 s.args.n _ _ s.requires refl (and_mask s.args.n 32)
+    store_shifted_64 s.args.s.now _ _ s.args.o.0 s.args.n _ _ s.requires refl (and_mask s.args.n 32)
     c.write_u32.ensures c.write_u32-2.ensures

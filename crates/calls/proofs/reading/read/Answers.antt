@@ -1,5 +1,5 @@
 -- read: by how it begins.
-use Rattle.calls.proofs.Outcomes.{refused_so, not_reached, read-refused, read-directory, read-file}
+use Rattle.calls.proofs.Outcomes.{refused_so, never_reached, read-refused, read-directory, read-file}
 use Rattle.calls.proofs.Stands.{object-at, object-file, no_file}
 use Rattle.calls.proofs.Steps.{start-object}
 use Rattle.calls.specs.Answers.{start_of}
@@ -10,7 +10,7 @@ use Rattle.calls.proofs.reading.read.Goals as goal
 pub returns-in_default : goal.returns-in_default
 returns-in_default c =
     read-refused _ _ _ _ _ (refused_so (start_of c.begin-begun.result) c.begin-begun.ensures
-    (not_reached c.begin-begun.result c.in_default.not-Reached) _ c.refusal_of.ensures)
+    (never_reached c.begin-begun.result c.in_default.not-Reached) _ c.refusal_of.ensures)
 
 pub magic_at-requires : goal.magic_at-requires
 magic_at-requires c =

@@ -1,5 +1,5 @@
 -- read_point: by how it begins.
-use Rattle.calls.proofs.Outcomes.{refused_so, not_reached, reached-number, point-refused, point-directory, point-file}
+use Rattle.calls.proofs.Outcomes.{refused_so, never_reached, reached-number, point-refused, point-directory, point-file}
 use Rattle.calls.proofs.Stands.{object-at, object-file, no_file}
 use Rattle.calls.proofs.Steps.{start-object}
 use Rattle.calls.specs.Answers.{start_of}
@@ -10,7 +10,7 @@ use Rattle.calls.proofs.reading.read_point.Goals as goal
 pub returns-in_default : goal.returns-in_default
 returns-in_default c =
     point-refused _ _ _ _ (refused_so (start_of c.begin-begun.result) c.begin-begun.ensures
-    (not_reached c.begin-begun.result c.in_default.not-Reached) _ c.refusal_of.ensures) _ _ c.no_point.ensures.0
+    (never_reached c.begin-begun.result c.in_default.not-Reached) _ c.refusal_of.ensures) _ _ c.no_point.ensures.0
     c.no_point.ensures.1
 
 pub magic_at-requires : goal.magic_at-requires

@@ -1,5 +1,5 @@
 -- begin_above: refused first, the root, or the walk to the directory.
-use Rattle.calls.proofs.Outcomes.{not_reached}
+use Rattle.calls.proofs.Outcomes.{never_reached}
 use Rattle.calls.proofs.Stands.{no_directory, object-at, object-directory}
 use Rattle.calls.proofs.Steps.{above-directory, above-file, above-first, above-refused, above_root, opened_formed, opened_object}
 use Rattle.calls.specs.Answers.{start_of}
@@ -25,7 +25,7 @@ returns-in_default c =
     c.number.ensures c.if-number-ne0.false
     c.count.ensures c.if-count-eq0.false _
     c.directory.ensures (start_of c.walk_from-begun.result) c.walk_from-begun.ensures
-    (not_reached c.walk_from-begun.result c.in_default.not-Reached) c.refusal_of.ensures
+    (never_reached c.walk_from-begun.result c.in_default.not-Reached) c.refusal_of.ensures
 
 pub magic_at-requires : goal.magic_at-requires
 magic_at-requires c =

@@ -1,5 +1,5 @@
 -- write: by how it begins.
-use Rattle.calls.proofs.Outcomes.{not_reached, refused_so}
+use Rattle.calls.proofs.Outcomes.{never_reached, refused_so}
 use Rattle.calls.proofs.Stands.{no_file, object-at, object-file}
 use Rattle.calls.proofs.Steps.{start-object}
 use Rattle.calls.specs.Answers.{start_of}
@@ -12,7 +12,7 @@ pub returns-in_default : goal.returns-in_default
 returns-in_default c =
     write-is _ _ _ _ (file-refused _ _ _
     (refused_so (start_of c.begin-begun.result) c.begin-begun.ensures
-    (not_reached c.begin-begun.result c.in_default.not-Reached) _ c.refusal_of.ensures))
+    (never_reached c.begin-begun.result c.in_default.not-Reached) _ c.refusal_of.ensures))
 
 pub magic_at-requires : goal.magic_at-requires
 magic_at-requires c =

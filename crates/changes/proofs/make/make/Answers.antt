@@ -1,5 +1,5 @@
 -- make: by how it begins.
-use Rattle.calls.proofs.Outcomes.{not_reached, refused_so}
+use Rattle.calls.proofs.Outcomes.{never_reached, refused_so}
 use Rattle.calls.proofs.Steps.{reached-above}
 use Rattle.calls.specs.Answers.{start_of}
 use Rattle.changes.proofs.Making.{last_named, make-reached, make-refused}
@@ -11,7 +11,7 @@ pub returns-in_default : goal.returns-in_default
 returns-in_default c =
     make-refused _ _ (new_of c.args.new) c.allowed.ensures
     _ (refused_so (start_of c.begin_above-begun.result) c.begin_above-begun.ensures
-    (not_reached c.begin_above-begun.result c.in_default.not-Reached) _ c.refusal_of.ensures) _ _
+    (never_reached c.begin_above-begun.result c.in_default.not-Reached) _ c.refusal_of.ensures) _ _
     c.unmade.ensures.0 c.unmade.ensures.1
 
 pub make_in-requires : goal.make_in-requires
