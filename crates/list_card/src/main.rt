@@ -2,6 +2,8 @@
 
 #![tactic(auto)]
 
-fn main() {
-    lister::run();
+use std::io;
+
+fn main(rt: HostRuntime) -> io::Result<()> {
+    lister::run(&rt)
 }

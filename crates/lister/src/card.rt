@@ -9,18 +9,19 @@ use calls::refusal::Refusal;
 use listing::lines::Line;
 use listing::seek::{Cursor, Seen};
 use listing::{seek, walk};
+use std::io;
 use storage::Ref;
 
 // An image that is longer than the program holds.
-pub fn refuse_longer() {
-    show::say(b"refused 1\n");
+pub fn refuse_longer(rt: &impl Print) -> io::Result<()> {
+    show::say(rt, b"refused 1\n")
 }
 
 // The number, and the place last.
-fn refuse(r: Refusal) {
-    show::say_number(b"refused ", refusal::number(r) as u64);
-    show::say_number(b" ", refusal::place(r).0);
-    show::say(b"\n");
+fn refuse(rt: &impl Print, r: Refusal) -> io::Result<()> {
+    show::say_number(rt, b"refused ", refusal::number(r) as u64)?;
+    show::say_number(rt, b" ", refusal::place(r).0)?;
+    show::say(rt, b"\n")
 }
 
 // The name refs of an object and of the directories above it, each at its depth, where `names` has those of the line before.
@@ -42,7 +43,7 @@ struct Place {
 }
 
 // The next line.
-fn show_line(image: &[u8], p: Place) -> Place
+fn show_line(rt: &impl Print, image: &[u8], p: Place) -> io::Result<Place>
     requires { well_formed image.now ≡ true }
 {
     let above = p.names;
@@ -50,18 +51,18 @@ fn show_line(image: &[u8], p: Place) -> Place
     let seen = step.seen;
     let cursor = step.cursor;
     let Seen::Here(l) = seen else {
-        return Place {
+        return Ok(Place {
             cursor,
             names: above,
-        };
+        });
     };
     let names = with_name(above, l);
-    line::say(image, l, names);
-    Place { cursor, names }
+    line::say(rt, image, l, names)?;
+    Ok(Place { cursor, names })
 }
 
 // Every line.
-fn show_lines(image: &[u8])
+fn show_lines(rt: &impl Print, image: &[u8]) -> io::Result<()>
     requires { well_formed image.now ≡ true }
 {
     let n = walk::count(image);
@@ -70,20 +71,20 @@ fn show_lines(image: &[u8])
     let mut p = Place { cursor, names };
     let mut i: u64 = 0;
     while i < n {
-        p = show_line(image, p);
+        p = show_line(rt, image, p)?;
         i += 1;
     }
+    Ok(())
 }
 
 // The length of the image, its free units, and every line; or the refusal.
-pub fn show(image: &[u8]) {
+pub fn show(rt: &impl Print, image: &[u8]) -> io::Result<()> {
     let own = calls::check::check(image);
     if refusal::number(own) != 0 {
-        refuse(own);
-        return;
+        return refuse(rt, own);
     }
-    show::say_number(b"image ", image.len() as u64);
-    show::say_number(b" free ", alloc::chain::free_units(image));
-    show::say(b"\n");
-    show_lines(image);
+    show::say_number(rt, b"image ", image.len() as u64)?;
+    show::say_number(rt, b" free ", alloc::chain::free_units(image))?;
+    show::say(rt, b"\n")?;
+    show_lines(rt, image)
 }

@@ -2,13 +2,15 @@
 
 #![tactic(auto)]
 
-ghost use Rattle.std.specs.Prelude.{◌≡◌};
+ghost use Rattle.std.specs.Prelude.{◌≡◌, ◌<◌, ◌≤◌, length, take, IfOk};
+ghost use Rattle.std.specs.Io.KnownBytes.{Consumes, IsAtEnd};
 ghost use Rattle.show.specs.Words.{spread_over};
 
 use calls::reading::Kind;
 use calls::refusal;
 use calls::refusal::Refusal;
-use libc::STDOUT_FILENO;
+use std::io;
+use std::io::Read;
 use storage::Offset;
 
 // The first word of a block is its magic and its size.
@@ -38,45 +40,63 @@ pub fn spread(words: &[u64], image: &mut [u8])
     }
 }
 
-pub fn say(text: &[u8]) {
-    io::write_all(STDOUT_FILENO, text);
+pub fn say(rt: &impl Print, text: &[u8]) -> io::Result<()> {
+    rt.write_all(text)
 }
 
-pub fn say_number(text: &[u8], n: u64) {
-    say(text);
-    io::print_decimal(STDOUT_FILENO, n);
+pub fn say_number(rt: &impl Print, text: &[u8], n: u64) -> io::Result<()> {
+    say(rt, text)?;
+    rt.print(n)
 }
 
 // A path in quotes, since it may be empty.
-pub fn say_path(text: &[u8], path: &[u8]) {
-    say(text);
-    say(b"\"");
-    say(path);
-    say(b"\"");
+pub fn say_path(rt: &impl Print, text: &[u8], path: &[u8]) -> io::Result<()> {
+    say(rt, text)?;
+    say(rt, b"\"")?;
+    say(rt, path)?;
+    say(rt, b"\"")
 }
 
 // What a call answers: its number, and the place where the image breaks a rule.
-pub fn say_answer(number: u8, place: u64) {
-    say_number(b": ", number as u64);
+pub fn say_answer(rt: &impl Print, number: u8, place: u64) -> io::Result<()> {
+    say_number(rt, b": ", number as u64)?;
     if 20 < number {
-        say_number(b" at ", place);
+        say_number(rt, b" at ", place)?;
     }
+    Ok(())
 }
 
-pub fn say_refusal(r: Refusal) {
-    say_answer(refusal::number(r), refusal::place(r).0);
+pub fn say_refusal(rt: &impl Print, r: Refusal) -> io::Result<()> {
+    say_answer(rt, refusal::number(r), refusal::place(r).0)
 }
 
 // A kind and its two numbers.
-pub fn say_kind(kind: Kind) {
+pub fn say_kind(rt: &impl Print, kind: Kind) -> io::Result<()> {
     match kind {
         Kind::File { size, room } => {
-            say_number(b", file ", size);
-            say_number(b"/", room);
+            say_number(rt, b", file ", size)?;
+            say_number(rt, b"/", room)
         }
         Kind::Directory { taken, total } => {
-            say_number(b", directory ", taken);
-            say_number(b"/", total);
+            say_number(rt, b", directory ", taken)?;
+            say_number(rt, b"/", total)
         }
     }
+}
+
+// Reads until `buffer` is full or the input ends: how many bytes are read, to its front.
+pub fn read_full<R: Read>(from: &mut R, buffer: &mut [u8]) -> io::Result<usize>
+    ensures bound { IfOk result (λ n. n ≤ length buffer.new) }
+    ensures bytes { IfOk result (λ n. Consumes (R.remaining from.old) (R.remaining from.new) (take n buffer.new)) }
+    ensures end { IfOk result (λ n. n < length buffer.new → IsAtEnd (R.remaining from.new)) }
+{
+    let mut done: usize = 0;
+    while done < buffer.len() {
+        let n = from.read(&mut buffer[done..])?;
+        if n == 0 {
+            break;
+        }
+        done += n;
+    }
+    Ok(done)
 }

@@ -4,6 +4,7 @@
 
 ghost use Rattle.std.specs.Prelude.{◌<◌};
 
+use std::io;
 use storage::{Offset, Ref};
 
 mod tell;
@@ -37,156 +38,158 @@ fn without_heel() -> [u8; 256] {
     image
 }
 
-fn format_card() {
+fn format_card(rt: &impl Print) -> io::Result<()> {
     let mut image = [7u8; 256];
-    tell::format(&mut image, 2);
-    tell::superblock(&image);
-    tell::block(&image, Ref(2));
-    tell::block(&image, Ref(5));
+    tell::format(rt, &mut image, 2)?;
+    tell::superblock(rt, &image)?;
+    tell::block(rt, &image, Ref(2))?;
+    tell::block(rt, &image, Ref(5))
 }
 
-fn make_heel() {
+fn make_heel(rt: &impl Print) -> io::Result<()> {
     let mut image = formatted();
-    tell::make_file(&mut image, b"/heel", 32);
-    tell::superblock(&image);
-    tell::slot(&image, 0);
-    tell::block(&image, Ref(5));
-    tell::block(&image, Ref(9));
-    tell::block(&image, Ref(10));
+    tell::make_file(rt, &mut image, b"/heel", 32)?;
+    tell::superblock(rt, &image)?;
+    tell::slot(rt, &image, 0)?;
+    tell::block(rt, &image, Ref(5))?;
+    tell::block(rt, &image, Ref(9))?;
+    tell::block(rt, &image, Ref(10))
 }
 
-fn make_a() {
+fn make_a(rt: &impl Print) -> io::Result<()> {
     let mut image = with_heel();
-    tell::make_directory(&mut image, b"/a", 1);
-    tell::superblock(&image);
-    tell::slot(&image, 1);
-    tell::block(&image, Ref(10));
-    tell::block(&image, Ref(12));
-    tell::block(&image, Ref(13));
+    tell::make_directory(rt, &mut image, b"/a", 1)?;
+    tell::superblock(rt, &image)?;
+    tell::slot(rt, &image, 1)?;
+    tell::block(rt, &image, Ref(10))?;
+    tell::block(rt, &image, Ref(12))?;
+    tell::block(rt, &image, Ref(13))
 }
 
 // The slots are taken; then /heel goes.
-fn remove_heel() {
+fn remove_heel(rt: &impl Print) -> io::Result<()> {
     let mut image = with_both();
-    tell::make_file(&mut image, b"/b", 40);
-    tell::remove(&mut image, b"/heel");
-    tell::superblock(&image);
-    tell::slot(&image, 0);
-    tell::block(&image, Ref(5));
-    tell::field(b"next", &image, Ref(5));
-    tell::block(&image, Ref(13));
-    tell::field(b"next", &image, Ref(13));
+    tell::make_file(rt, &mut image, b"/b", 40)?;
+    tell::remove(rt, &mut image, b"/heel")?;
+    tell::superblock(rt, &image)?;
+    tell::slot(rt, &image, 0)?;
+    tell::block(rt, &image, Ref(5))?;
+    tell::field(rt, b"next", &image, Ref(5))?;
+    tell::block(rt, &image, Ref(13))?;
+    tell::field(rt, b"next", &image, Ref(13))
 }
 
 // What /heel left is used again: a new object in slot 0.
-fn make_after(path: &[u8], room: u64) {
+fn make_after(rt: &impl Print, path: &[u8], room: u64) -> io::Result<()> {
     let mut image = without_heel();
-    tell::make_file(&mut image, path, room);
-    tell::superblock(&image);
-    tell::slot(&image, 0);
-    tell::check(b"what is made", &image);
+    tell::make_file(rt, &mut image, path, room)?;
+    tell::superblock(rt, &image)?;
+    tell::slot(rt, &image, 0)?;
+    tell::check(rt, b"what is made", &image)
 }
 
-fn make_b() {
-    make_after(b"/b", 40);
-    make_after(b"/b", 41);
-    make_after(b"/b", 56);
-    make_after(b"/b", 57);
+fn make_b(rt: &impl Print) -> io::Result<()> {
+    make_after(rt, b"/b", 40)?;
+    make_after(rt, b"/b", 41)?;
+    make_after(rt, b"/b", 56)?;
+    make_after(rt, b"/b", 57)?;
     make_after(
+        rt,
         b"/0123456789abcdef0123456789abcdef0123456789abcdef0123456789abcdef",
         24,
-    );
+    )
 }
 
 // ---- lengths
 
-fn format_64() {
+fn format_64(rt: &impl Print) -> io::Result<()> {
     let mut image = [7u8; 64];
-    tell::format(&mut image, 1);
-    tell::superblock(&image);
+    tell::format(rt, &mut image, 1)?;
+    tell::superblock(rt, &image)?;
     let mut other = [7u8; 64];
-    tell::format(&mut other, 2);
+    tell::format(rt, &mut other, 2)
 }
 
-fn format_others() {
+fn format_others(rt: &impl Print) -> io::Result<()> {
     let mut shorter = [7u8; 48];
-    tell::format(&mut shorter, 1);
+    tell::format(rt, &mut shorter, 1)?;
     let mut uneven = [7u8; 65];
-    tell::format(&mut uneven, 1);
+    tell::format(rt, &mut uneven, 1)?;
     let mut none = [7u8; 0];
-    tell::format(&mut none, 1);
+    tell::format(rt, &mut none, 1)
 }
 
 // ---- writes: /heel has room 32 and is empty
 
-fn write_28() {
+fn write_28(rt: &impl Print) -> io::Result<()> {
     let mut image = with_heel();
-    tell::write(&mut image, b"/heel", 28, b"\x01\x02\x03\x04");
-    tell::field(b"file size", &image, Ref(5));
-    tell::read_32(&image, b"/heel");
+    tell::write(rt, &mut image, b"/heel", 28, b"\x01\x02\x03\x04")?;
+    tell::field(rt, b"file size", &image, Ref(5))?;
+    tell::read_32(rt, &image, b"/heel")
 }
 
-fn write_heel(position: u64, bytes: &[u8]) {
+fn write_heel(rt: &impl Print, position: u64, bytes: &[u8]) -> io::Result<()> {
     let mut image = with_heel();
-    tell::write(&mut image, b"/heel", position, bytes);
-    tell::field(b"file size", &image, Ref(5));
+    tell::write(rt, &mut image, b"/heel", position, bytes)?;
+    tell::field(rt, b"file size", &image, Ref(5))
 }
 
-fn writes() {
-    write_28();
-    write_heel(32, b"\x01");
-    write_heel(32, b"");
-    write_heel(33, b"");
+fn writes(rt: &impl Print) -> io::Result<()> {
+    write_28(rt)?;
+    write_heel(rt, 32, b"\x01")?;
+    write_heel(rt, 32, b"")?;
+    write_heel(rt, 33, b"")
 }
 
 // ---- points
 
 // A file of 65,536 bytes: zeros, and at its end the letters a to x.
-fn largest_points() {
+fn largest_points(rt: &impl Print) -> io::Result<()> {
     let mut image = [7u8; 65648];
-    tell::format(&mut image, 1);
-    tell::make_file(&mut image, b"/a", 65536);
-    tell::set_length(&mut image, b"/a", 65536);
-    tell::write(&mut image, b"/a", 65512, b"abcdefghijklmnopqrstuvwx");
-    tell::point(&image, b"/a", 4096);
-    tell::point(&image, b"/a", 4097);
-    tell::point(&image, b"/a", 0);
+    tell::format(rt, &mut image, 1)?;
+    tell::make_file(rt, &mut image, b"/a", 65536)?;
+    tell::set_length(rt, &mut image, b"/a", 65536)?;
+    tell::write(rt, &mut image, b"/a", 65512, b"abcdefghijklmnopqrstuvwx")?;
+    tell::point(rt, &image, b"/a", 4096)?;
+    tell::point(rt, &image, b"/a", 4097)?;
+    tell::point(rt, &image, b"/a", 0)
 }
 
 // A file of 40 bytes: letters and digits.
-fn points_of_40() {
+fn points_of_40(rt: &impl Print) -> io::Result<()> {
     let mut image = formatted();
-    tell::make_file(&mut image, b"/heel", 40);
+    tell::make_file(rt, &mut image, b"/heel", 40)?;
     tell::write(
+        rt,
         &mut image,
         b"/heel",
         0,
         b"abcdefghijklmnopqrstuvwxyz0123456789ABCD",
-    );
-    tell::point(&image, b"/heel", 2);
-    tell::point(&image, b"/heel", 3);
+    )?;
+    tell::point(rt, &image, b"/heel", 2)?;
+    tell::point(rt, &image, b"/heel", 3)
 }
 
 // ---- paths that are not valid: every call answers 2
 
-fn refused_path(path: &[u8]) {
+fn refused_path(rt: &impl Print, path: &[u8]) -> io::Result<()> {
     let mut image = with_both();
-    tell::find(&image, path);
-    tell::read_32(&image, path);
-    tell::point(&image, path, 1);
-    tell::make_directory(&mut image, path, 1);
-    tell::make_file(&mut image, path, 0);
-    tell::write(&mut image, path, 0, b"a");
-    tell::set_length(&mut image, path, 0);
-    tell::remove(&mut image, path);
+    tell::find(rt, &image, path)?;
+    tell::read_32(rt, &image, path)?;
+    tell::point(rt, &image, path, 1)?;
+    tell::make_directory(rt, &mut image, path, 1)?;
+    tell::make_file(rt, &mut image, path, 0)?;
+    tell::write(rt, &mut image, path, 0, b"a")?;
+    tell::set_length(rt, &mut image, path, 0)?;
+    tell::remove(rt, &mut image, path)
 }
 
-fn paths() {
-    refused_path(b"");
-    refused_path(b"/a/");
-    refused_path(b"//");
-    refused_path(b"a");
-    refused_path(b"/..");
+fn paths(rt: &impl Print) -> io::Result<()> {
+    refused_path(rt, b"")?;
+    refused_path(rt, b"/a/")?;
+    refused_path(rt, b"//")?;
+    refused_path(rt, b"a")?;
+    refused_path(rt, b"/..")
 }
 
 // ---- the detached pair
@@ -201,30 +204,30 @@ fn set_directory(image: &mut [u8; 256], at: usize, parent: Ref, name: Ref, objec
 }
 
 // The directories /a at 5, its name at 7, and /b at 8, its name at 10; then each is in the other's slot, and the root is empty.
-fn detached() {
+fn detached(rt: &impl Print) -> io::Result<()> {
     let mut image = formatted();
-    tell::make_directory(&mut image, b"/a", 1);
-    tell::make_directory(&mut image, b"/b", 1);
-    tell::slot(&image, 0);
-    tell::slot(&image, 1);
-    tell::check(b"two directories", &image);
+    tell::make_directory(rt, &mut image, b"/a", 1)?;
+    tell::make_directory(rt, &mut image, b"/b", 1)?;
+    tell::slot(rt, &image, 0)?;
+    tell::slot(rt, &image, 1)?;
+    tell::check(rt, b"two directories", &image)?;
     storage::zero(&mut image, Offset(48), 32);
     set_directory(&mut image, 88, Ref(8), Ref(10), Ref(8));
     set_directory(&mut image, 136, Ref(5), Ref(7), Ref(5));
-    tell::check(b"the detached pair", &image);
+    tell::check(rt, b"the detached pair", &image)
 }
 
-fn main() {
-    format_card();
-    make_heel();
-    make_a();
-    remove_heel();
-    make_b();
-    format_64();
-    format_others();
-    writes();
-    largest_points();
-    points_of_40();
-    paths();
-    detached();
+fn main(rt: HostRuntime) -> io::Result<()> {
+    format_card(&rt)?;
+    make_heel(&rt)?;
+    make_a(&rt)?;
+    remove_heel(&rt)?;
+    make_b(&rt)?;
+    format_64(&rt)?;
+    format_others(&rt)?;
+    writes(&rt)?;
+    largest_points(&rt)?;
+    points_of_40(&rt)?;
+    paths(&rt)?;
+    detached(&rt)
 }

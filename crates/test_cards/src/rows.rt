@@ -6,7 +6,9 @@ use calls::reading::Kind;
 use listing::lines::Line;
 use listing::rows;
 use listing::rows::Listed;
-use show::{say, say_kind, say_number, say_refusal};
+use show::{read_full, say, say_kind, say_number, say_refusal};
+use std::io;
+use std::rt::Files;
 use storage::Ref;
 
 // Lines that no listing has.
@@ -21,55 +23,56 @@ fn blank() -> [Line; 4] {
     [line; 4]
 }
 
-fn say_line(l: Line) {
+fn say_line(rt: &impl Print, l: Line) -> io::Result<()> {
     let kind = l.kind;
-    say_number(b"  ref ", l.at.0);
-    say_number(b", parent ", l.parent.0);
-    say_number(b", name ", l.name.0);
-    say_number(b", depth ", l.depth);
-    say_kind(kind);
-    say(b"\n");
+    say_number(rt, b"  ref ", l.at.0)?;
+    say_number(rt, b", parent ", l.parent.0)?;
+    say_number(rt, b", name ", l.name.0)?;
+    say_number(rt, b", depth ", l.depth)?;
+    say_kind(rt, kind)?;
+    say(rt, b"\n")
 }
 
 // The answer, and the whole row after it.
-fn say_row(listed: Listed, row: [Line; 4]) {
+fn say_row(rt: &impl Print, listed: Listed, row: [Line; 4]) -> io::Result<()> {
     let refusal = listed.refusal;
-    say_refusal(refusal);
-    say_number(b", count ", listed.count);
-    say(b"\n");
-    say_line(row[0]);
-    say_line(row[1]);
-    say_line(row[2]);
-    say_line(row[3]);
+    say_refusal(rt, refusal)?;
+    say_number(rt, b", count ", listed.count)?;
+    say(rt, b"\n")?;
+    say_line(rt, row[0])?;
+    say_line(rt, row[1])?;
+    say_line(rt, row[2])?;
+    say_line(rt, row[3])
 }
 
 // The first `n` lines of the row are lent.
-fn lend(image: &[u8], n: usize)
+fn lend(rt: &impl Print, image: &[u8], n: usize) -> io::Result<()>
     requires { n ≤ 4 }
 {
     let mut row = blank();
     let listed = rows::list(image, &mut row[..n]);
-    say_row(listed, row);
+    say_row(rt, listed, row)
 }
 
 // The card of 256 bytes in this file.
-fn show(path: &[u8], n: usize)
+fn show(rt: &(impl Print + Files), path: &[u8], n: usize) -> io::Result<()>
     requires { n ≤ 4 }
 {
     let mut image = [0u8; 256];
-    let fd = os::open_read(path);
-    let size = io::read_full(fd, &mut image);
-    libc::close(fd);
-    say(b"-- ");
-    say(path);
-    say_number(b" into ", n as u64);
-    lend(&image[..size], n);
+    let size = match crate::open(rt, path) {
+        Some(mut file) => read_full(&mut file, &mut image)?,
+        None => 0,
+    };
+    say(rt, b"-- ")?;
+    say(rt, path)?;
+    say_number(rt, b" into ", n as u64)?;
+    lend(rt, &image[..size], n)
 }
 
 // More lines than the card has, exactly as many, and too few; then a card that is refused.
-pub fn run() {
-    show(b"sample", 4);
-    show(b"sample", 3);
-    show(b"sample", 2);
-    show(b"detached", 4);
+pub fn run(rt: &(impl Print + Files)) -> io::Result<()> {
+    show(rt, b"sample", 4)?;
+    show(rt, b"sample", 3)?;
+    show(rt, b"sample", 2)?;
+    show(rt, b"detached", 4)
 }

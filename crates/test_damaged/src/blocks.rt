@@ -3,105 +3,128 @@
 use crate::cards;
 use crate::changed::{show_card, show_one, show_removed, show_words};
 use show::{DIRECTORY, FILE, FREE, NAME, SUPERBLOCK};
+use std::io;
 
-pub fn undamaged() {
-    show_card(b"two objects and a free block", &[]);
-    show_removed(b"a gap in the middle", &[]);
-    show_words(b"a directory in a directory", &cards::NESTED, &[], 160);
+pub fn undamaged(rt: &impl Print) -> io::Result<()> {
+    show_card(rt, b"two objects and a free block", &[])?;
+    show_removed(rt, b"a gap in the middle", &[])?;
+    show_words(rt, b"a directory in a directory", &cards::NESTED, &[], 160)
 }
 
 // Rule 1: the kinds.
-pub fn kinds() {
+pub fn kinds(rt: &impl Print) -> io::Result<()> {
     show_card(
+        rt,
         b"a block of no kind",
         &[26, FREE + 24, 30, 0x53467878_00000008],
-    );
-    show_card(b"a second superblock", &[26, FREE + 8, 28, SUPERBLOCK + 16]);
+    )?;
+    show_card(
+        rt,
+        b"a second superblock",
+        &[26, FREE + 8, 28, SUPERBLOCK + 16],
+    )
 }
 
 // Rule 1: the sizes.
-pub fn sizes() {
-    show_one(b"a superblock of size 24", 0, SUPERBLOCK + 24);
+pub fn sizes(rt: &impl Print) -> io::Result<()> {
+    show_one(rt, b"a superblock of size 24", 0, SUPERBLOCK + 24)?;
     show_card(
+        rt,
         b"a directory without slots",
         &[2, 11, 20, DIRECTORY + 8, 22, FREE + 8, 23, 13],
-    );
-    show_one(b"a directory with half a slot", 20, DIRECTORY + 16);
-    show_one(b"a free block of 47 bytes", 26, FREE + 39);
-    show_one(b"a last block past the end", 26, FREE + 56);
-    show_one(b"a size with the highest bit", 26, FREE + 0x80000028);
+    )?;
+    show_one(rt, b"a directory with half a slot", 20, DIRECTORY + 16)?;
+    show_one(rt, b"a free block of 47 bytes", 26, FREE + 39)?;
+    show_one(rt, b"a last block past the end", 26, FREE + 56)?;
+    show_one(rt, b"a size with the highest bit", 26, FREE + 0x80000028)
 }
 
 // Rule 1: the limits of a size.
-pub fn limits() {
-    show_words(b"a name of 64 bytes", &cards::LONG_NAME, &[], 176);
+pub fn limits(rt: &impl Print) -> io::Result<()> {
+    show_words(rt, b"a name of 64 bytes", &cards::LONG_NAME, &[], 176)?;
     show_words(
+        rt,
         b"a name of 65 bytes",
         &cards::LONG_NAME,
         &[8, NAME + 65, 17, 0x61000000_00000000],
         176,
-    );
-    show_words(b"a room of 65536", &cards::LONG_FILE, &[], 65648);
+    )?;
+    show_words(rt, b"a room of 65536", &cards::LONG_FILE, &[], 65648)?;
     show_words(
+        rt,
         b"a room of 65537",
         &cards::LONG_FILE,
         &[10, FILE + 65553],
         65648,
-    );
+    )?;
     show_words(
+        rt,
         b"1025 slots",
         &cards::LONG_DIRECTORY,
         &[4, DIRECTORY + 16408],
         16448,
-    );
+    )
 }
 
 // Rule 1: the padding.
-pub fn padding() {
-    show_one(b"a bit set after the superblock", 3, 1);
-    show_one(b"a bit set after a name", 19, 0x6865656c_01000000);
-    show_one(b"a bit set after a file's room", 17, 0x80000000_00000000);
+pub fn padding(rt: &impl Print) -> io::Result<()> {
+    show_one(rt, b"a bit set after the superblock", 3, 1)?;
+    show_one(rt, b"a bit set after a name", 19, 0x6865656c_01000000)?;
+    show_one(
+        rt,
+        b"a bit set after a file's room",
+        17,
+        0x80000000_00000000,
+    )
 }
 
 // The first bytes of the card, and zeros where it is longer.
-fn show_length(text: &[u8], len: usize) {
-    show_words(text, &cards::CARD, &[], len);
+fn show_length(rt: &impl Print, text: &[u8], len: usize) -> io::Result<()> {
+    show_words(rt, text, &cards::CARD, &[], len)
 }
 
 // Rule 1: the length of the image, and blocks that do not end with it.
-pub fn lengths() {
-    show_length(b"no bytes", 0);
-    show_length(b"48 bytes", 48);
-    show_length(b"255 bytes", 255);
-    show_length(b"257 bytes", 257);
-    show_length(b"the last unit cut off", 240);
-    show_length(b"a unit of zeros at the end", 272);
-    show_words(b"1048576 bytes", &cards::LONGEST, &[], 1048576);
+pub fn lengths(rt: &impl Print) -> io::Result<()> {
+    show_length(rt, b"no bytes", 0)?;
+    show_length(rt, b"48 bytes", 48)?;
+    show_length(rt, b"255 bytes", 255)?;
+    show_length(rt, b"257 bytes", 257)?;
+    show_length(rt, b"the last unit cut off", 240)?;
+    show_length(rt, b"a unit of zeros at the end", 272)?;
+    show_words(rt, b"1048576 bytes", &cards::LONGEST, &[], 1048576)?;
     show_words(
+        rt,
         b"1048592 bytes",
         &cards::LONGEST,
         &[8, FREE + 1048520],
         1048592,
-    );
+    )
 }
 
 // Rule 8: a chain of one.
-pub fn chains() {
-    show_one(b"a free block and no first ref", 2, 0);
-    show_one(b"a file first in the chain", 2, 5);
-    show_one(b"a first ref inside a free block", 2, 14);
-    show_one(b"a chain that leaves the image", 27, 16);
-    show_one(b"a free block before itself", 27, 13);
+pub fn chains(rt: &impl Print) -> io::Result<()> {
+    show_one(rt, b"a free block and no first ref", 2, 0)?;
+    show_one(rt, b"a file first in the chain", 2, 5)?;
+    show_one(rt, b"a first ref inside a free block", 2, 14)?;
+    show_one(rt, b"a chain that leaves the image", 27, 16)?;
+    show_one(rt, b"a free block before itself", 27, 13)?;
     show_card(
+        rt,
         b"two free neighbours",
         &[26, FREE + 8, 27, 14, 28, FREE + 24],
-    );
+    )
 }
 
 // Rule 8: a chain of two, and one of none.
-pub fn other_chains() {
-    show_removed(b"a free block left out", &[11, 0]);
-    show_removed(b"a falling chain", &[2, 13, 11, 0, 27, 5]);
-    show_removed(b"a chain in a circle", &[27, 5]);
-    show_words(b"a first ref and nothing free", &cards::BARE, &[2, 2], 64);
+pub fn other_chains(rt: &impl Print) -> io::Result<()> {
+    show_removed(rt, b"a free block left out", &[11, 0])?;
+    show_removed(rt, b"a falling chain", &[2, 13, 11, 0, 27, 5])?;
+    show_removed(rt, b"a chain in a circle", &[27, 5])?;
+    show_words(
+        rt,
+        b"a first ref and nothing free",
+        &cards::BARE,
+        &[2, 2],
+        64,
+    )
 }

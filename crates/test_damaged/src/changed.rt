@@ -5,15 +5,16 @@ ghost use Rattle.std.specs.Prelude.{◌≡◌, length};
 
 use crate::cards;
 use show::{say, say_answer, spread};
+use std::io;
 use storage::Offset;
 
 // What is wrong with an image, the number and the place.
-fn show(text: &[u8], image: &[u8]) {
+fn show(rt: &impl Print, text: &[u8], image: &[u8]) -> io::Result<()> {
     let mut place: u64 = 0;
     let number = sffs1::sffs1_check(image, &mut place);
-    say(text);
-    say_answer(number, place);
-    say(b"\n");
+    say(rt, text)?;
+    say_answer(rt, number, place)?;
+    say(rt, b"\n")
 }
 
 // The longest image and a unit more.
@@ -24,10 +25,11 @@ fn zeros() -> [u8; 1048592]
 }
 
 // The line of the first `len` bytes.
-fn show_front(text: &[u8], image: &[u8], len: usize) {
+fn show_front(rt: &impl Print, text: &[u8], image: &[u8], len: usize) -> io::Result<()> {
     if len <= image.len() {
-        show(text, &image[..len]);
+        show(rt, text, &image[..len])?;
     }
+    Ok(())
 }
 
 // One change; there is none outside the image.
@@ -48,28 +50,34 @@ fn change(image: &mut [u8], changes: &[u64]) {
 }
 
 // The line of an image of `len` bytes.
-pub fn show_words(text: &[u8], words: &[u64], changes: &[u64], len: usize) {
+pub fn show_words(
+    rt: &impl Print,
+    text: &[u8],
+    words: &[u64],
+    changes: &[u64],
+    len: usize,
+) -> io::Result<()> {
     let mut image = zeros();
     spread(words, &mut image);
     change(&mut image, changes);
-    show_front(text, &image, len);
+    show_front(rt, text, &image, len)
 }
 
 // The line of the card of 256 bytes.
-pub fn show_card(text: &[u8], changes: &[u64]) {
-    show_words(text, &cards::CARD, changes, 256);
+pub fn show_card(rt: &impl Print, text: &[u8], changes: &[u64]) -> io::Result<()> {
+    show_words(rt, text, &cards::CARD, changes, 256)
 }
 
 // The same with one change.
-pub fn show_one(text: &[u8], index: u64, word: u64) {
-    show_card(text, &[index, word]);
+pub fn show_one(rt: &impl Print, text: &[u8], index: u64, word: u64) -> io::Result<()> {
+    show_card(rt, text, &[index, word])
 }
 
 // The line of the card after /heel was removed.
-pub fn show_removed(text: &[u8], changes: &[u64]) {
+pub fn show_removed(rt: &impl Print, text: &[u8], changes: &[u64]) -> io::Result<()> {
     let mut image = zeros();
     spread(&cards::CARD, &mut image);
     change(&mut image, &cards::REMOVED);
     change(&mut image, changes);
-    show_front(text, &image, 256);
+    show_front(rt, text, &image, 256)
 }

@@ -3,28 +3,30 @@
 
 #![tactic(auto)]
 
+use std::io;
+
 mod blocks;
 mod cards;
 mod changed;
 mod trees;
 
-fn main() {
-    blocks::undamaged();
-    blocks::kinds();
-    blocks::sizes();
-    blocks::limits();
-    blocks::padding();
-    blocks::lengths();
-    trees::roots();
-    trees::slots();
-    trees::naming();
-    trees::detached();
-    trees::depth();
-    trees::names();
-    trees::spellings();
-    trees::characters();
-    trees::long_characters();
-    trees::files();
-    blocks::chains();
-    blocks::other_chains();
+fn main(rt: HostRuntime) -> io::Result<()> {
+    blocks::undamaged(&rt)?;
+    blocks::kinds(&rt)?;
+    blocks::sizes(&rt)?;
+    blocks::limits(&rt)?;
+    blocks::padding(&rt)?;
+    blocks::lengths(&rt)?;
+    trees::roots(&rt)?;
+    trees::slots(&rt)?;
+    trees::naming(&rt)?;
+    trees::detached(&rt)?;
+    trees::depth(&rt)?;
+    trees::names(&rt)?;
+    trees::spellings(&rt)?;
+    trees::characters(&rt)?;
+    trees::long_characters(&rt)?;
+    trees::files(&rt)?;
+    blocks::chains(&rt)?;
+    blocks::other_chains(&rt)
 }
