@@ -1,6 +1,5 @@
 -- sffs1_check: by what check answers.
 use Rattle.sffs1.proofs.Told.{told_as}
-use borrow.Author.Rules.{rules}
 use Rattle.sffs1.proofs.sffs1_check.Goals as goal
 
 pub returns : goal.returns

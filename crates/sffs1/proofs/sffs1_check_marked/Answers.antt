@@ -1,6 +1,5 @@
 -- sffs1_check_marked: the answer, told.
 use Rattle.sffs1.proofs.Told.{check-told}
-use borrow.Author.Rules.{rules}
 use Rattle.sffs1.proofs.sffs1_check_marked.Goals as goal
 
 pub returns : goal.returns

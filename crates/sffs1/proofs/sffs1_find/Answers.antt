@@ -2,7 +2,6 @@
 use Rattle.calls.specs.Reading.{Found}
 use Rattle.listing.specs.Numbers.{directory_of, first_of, second_of}
 use Rattle.sffs1.proofs.Told.{told_as}
-use borrow.Author.Rules.{rules}
 use mathlib.Core.Path.{◌∙◌, ap}
 use Rattle.sffs1.proofs.sffs1_find.Goals as goal
 

@@ -1,6 +1,5 @@
 -- sffs1_format: the number alone.
 use Rattle.calls.specs.Refusal.{number_of}
-use borrow.Author.Rules.{rules}
 use mathlib.Core.Path.{◌∙◌, ap}
 use Rattle.sffs1.proofs.sffs1_format.Goals as goal
 

@@ -1,7 +1,6 @@
 -- sffs1_list: by the answer.
 use Rattle.listing.proofs.Call.{tells}
 use Rattle.sffs1.proofs.Listed.{listed_numbers}
-use borrow.Author.Rules.{rules}
 use Rattle.sffs1.proofs.sffs1_list.Goals as goal
 
 pub fill-requires : goal.fill-requires

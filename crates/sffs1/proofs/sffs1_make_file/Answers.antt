@@ -1,6 +1,5 @@
 -- sffs1_make_file: the answer, told.
 use Rattle.sffs1.proofs.Told.{made_told}
-use borrow.Author.Rules.{rules}
 use Rattle.sffs1.proofs.sffs1_make_file.Goals as goal
 
 pub returns : goal.returns

@@ -1,6 +1,5 @@
 -- sffs1_read: the answer, told.
 use Rattle.sffs1.proofs.Told.{read_told}
-use borrow.Author.Rules.{rules}
 use Rattle.sffs1.proofs.sffs1_read.Goals as goal
 
 pub returns : goal.returns

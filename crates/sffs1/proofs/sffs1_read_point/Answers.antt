@@ -1,6 +1,5 @@
 -- sffs1_read_point: the answer, told.
 use Rattle.sffs1.proofs.Told.{point-told}
-use borrow.Author.Rules.{rules}
 use Rattle.sffs1.proofs.sffs1_read_point.Goals as goal
 
 pub returns : goal.returns

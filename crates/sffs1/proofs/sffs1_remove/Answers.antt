@@ -1,6 +1,5 @@
 -- sffs1_remove: the answer, told.
 use Rattle.sffs1.proofs.Told.{outcome_told}
-use borrow.Author.Rules.{rules}
 use Rattle.sffs1.proofs.sffs1_remove.Goals as goal
 
 pub returns : goal.returns

@@ -1,6 +1,5 @@
 -- sffs1_set_length: the answer, told.
 use Rattle.sffs1.proofs.Told.{outcome_told}
-use borrow.Author.Rules.{rules}
 use Rattle.sffs1.proofs.sffs1_set_length.Goals as goal
 
 pub returns : goal.returns

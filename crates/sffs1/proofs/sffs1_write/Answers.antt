@@ -1,6 +1,5 @@
 -- sffs1_write: the answer, told.
 use Rattle.sffs1.proofs.Told.{outcome_told}
-use borrow.Author.Rules.{rules}
 use Rattle.sffs1.proofs.sffs1_write.Goals as goal
 
 pub returns : goal.returns
