@@ -7,6 +7,8 @@ use native.Mathlib.Omega.{arith}
 use lib.Dec.{eqb}
 use borrow.Author.Tests.{eqb-true, eqb-false, eq-eqb}
 use lib.ListN.{length}
+use lib.Pointwise.{pointwise}
+use Rattle.std.specs.List.{list_all}
 use Rattle.storage.specs.Bytes.{be64, u64_at, same, zeros, zeroed}
 use Rattle.storage.proofs.Numbers.{be64-read}
 
@@ -20,6 +22,18 @@ same_eq (x ∷ s) (y ∷ t) e = go (eqb x y) refl e (same_eq s t)
     go : (q : Bool) → eqb x y ≡ q → elim q [ true ↦ same s t | false ↦ false ] ≡ true → (same s t ≡ true → s ≡ t) → x ∷ s ≡ y ∷ t
     go true q e f = λ i. eqb-true x y q i ∷ f e i
     go false q e f = let z : ◌≡◌ {A = ℕ} 0 1 = cc in absurd (omega arith)
+
+-- `==` of slices is this test
+pub pointwise-same : (s t : List ℕ) → pointwise eqb s t ≡ same s t
+unfolding same
+pointwise-same [] [] = refl
+pointwise-same [] (y ∷ t) = refl
+pointwise-same (x ∷ s) [] = refl
+pointwise-same (x ∷ s) (y ∷ t) = go (eqb x y) (pointwise-same s t)
+  where
+    go : (q : Bool) → pointwise eqb s t ≡ same s t → (q && pointwise eqb s t) ≡ elim q [ true ↦ same s t | false ↦ false ]
+    go true e = e
+    go false e = refl
 
 pub same_prefix : (x s t : List ℕ) → same (x ++ s) (x ++ t) ≡ same s t
 unfolding same
@@ -51,6 +65,16 @@ same_number m n s t h k = go (eqb n m) refl
     go : (q : Bool) → eqb n m ≡ q → same (be64 m ++ s) (be64 n ++ t) ≡ (q && same s t)
     go true e = ap (λ (i : ℕ). same (be64 m ++ s) (be64 i ++ t)) (eqb-true n m e) ∙ same_prefix (be64 m) s t
     go false e = clash (same (be64 m ++ s) (be64 n ++ t)) (eqb-false n m e) refl
+
+-- `all` with a test for zero is this test
+pub all-zeros : (s : List ℕ) → list_all (λ x. eqb x 0) s ≡ zeros s
+unfolding zeros
+all-zeros [] = refl
+all-zeros (x ∷ s) = go (eqb x 0) (all-zeros s)
+  where
+    go : (q : Bool) → list_all (λ x. eqb x 0) s ≡ zeros s → (q && list_all (λ x. eqb x 0) s) ≡ elim q [ true ↦ zeros s | false ↦ false ]
+    go true e = e
+    go false e = refl
 
 pub zeros_are : (s : List ℕ) → zeros s ≡ true → s ≡ zeroed (length s)
 unfolding zeros

@@ -7,6 +7,6 @@ use Rattle.storage.proofs.read_u64.Goals as goal
 pub returns : goal.returns
 unfolding u64_at
 returns c =
-    let high = c.read_u32-high in
-    let low = c.read_u32-low in
-    omega (arith, or_64 high.result low.result high.type_inv low.type_inv, high.ensures, low.ensures)
+    let high = c.from-high in
+    let low = c.from-low in
+    omega (arith, or_64 high.result low.result (omega arith) (omega arith))
