@@ -3,10 +3,11 @@ use Rattle.alloc.proofs.Held.{number_read}
 use Rattle.alloc.proofs.Links.{links-start, links_end, links-other, links-broken, links-free, free-least}
 use Rattle.storage.specs.Bytes.{u64_at}
 use Rattle.storage.specs.declared.Ref.{Ref}
+use borrow.Author.Tests.{eqb-true, eqb-false}
 use mathlib.Core.Path.{ap, sym, ◌∙◌}
 use native.Mathlib.Omega.{arith}
 use Rattle.alloc.proofs.chain.check.Goals as goal
-use Rattle.alloc.proofs.chain.check.Goals.{then-magic_at-eq-SFFR+else-behind-next, else-magic_at-eq-SFFR}
+use Rattle.alloc.proofs.chain.check.Goals.{then-is+else-behind-next, else-is}
 
 pub data_start-requires : goal.data_start-requires
 data_start-requires c = omega arith
@@ -17,19 +18,19 @@ read_ref-next-requires c = omega (arith, c.data_start.ensures, tiled-long c.requ
 pub loop-at-init : goal.loop-at-init
 loop-at-init c = rw c.start-at.ensures (links-start c.requires (c.read_ref-next.ensures ∙ ap (u64_at _) c.data_start.ensures))
 
-pub magic_at-requires : goal.magic_at-requires
-magic_at-requires c = omega (arith, c.loop-at.invariant.cut, cut_fits c.loop-at.invariant.cut (omega arith))
+pub is-requires : goal.is-requires
+is-requires c = omega (arith, c.loop-at.invariant.cut, cut_fits c.loop-at.invariant.cut (omega arith))
 
 pub returns-then-behind-next : goal.returns-then-behind-next
-returns-then-behind-next c = links-broken c.loop-at.invariant (omega arith) (sym c.magic_at.ensures ∙ c.if-magic_at-eq-SFFR.true) c.if-behind-next.true
+returns-then-behind-next c = links-broken c.loop-at.invariant (omega arith) (eqb-true _ _ (sym c.is.ensures ∙ c.if-is.true)) c.if-behind-next.true
 
-pub data_start-requires-then-magic_at-eq-SFFR : goal.data_start-requires-then-magic_at-eq-SFFR
-data_start-requires-then-magic_at-eq-SFFR c = omega (arith, c.loop-at.invariant.cut, cut_fits c.loop-at.invariant.cut (omega arith))
+pub data_start-requires-then-is : goal.data_start-requires-then-is
+data_start-requires-then-is c = omega (arith, c.loop-at.invariant.cut, cut_fits c.loop-at.invariant.cut (omega arith))
 
-pub read_ref-next-requires-then-magic_at-eq-SFFR : goal.read_ref-next-requires-then-magic_at-eq-SFFR
-read_ref-next-requires-then-magic_at-eq-SFFR c =
+pub read_ref-next-requires-then-is : goal.read_ref-next-requires-then-is
+read_ref-next-requires-then-is c =
     let l = c.loop-at.invariant.cut in
-    omega (arith, l, cut_fits l (omega arith), free-least (cut_standing l (omega arith)) (sym c.magic_at.ensures ∙ c.if-magic_at-eq-SFFR.true), c.data_start-then-magic_at-eq-SFFR.ensures)
+    omega (arith, l, cut_fits l (omega arith), free-least (cut_standing l (omega arith)) (eqb-true _ _ (sym c.is.ensures ∙ c.if-is.true)), c.data_start-then-is.ensures)
 
 pub after-r-requires : goal.after-r-requires
 after-r-requires c = omega (arith, c.loop-at.invariant.cut, cut_fits c.loop-at.invariant.cut (omega arith))
@@ -43,16 +44,16 @@ loop-at-smaller c = omega (arith, c.loop-at.invariant.cut, cut_fits c.loop-at.in
 pub loop-at-preserved : goal.loop-at-preserved
 loop-at-preserved c =
     let l = c.loop-at.invariant in
-    let m = c.magic_at.ensures in
-    elim c.if-magic_at-eq-SFFR.branch [
-      | then-magic_at-eq-SFFR+else-behind-next w ↦
+    let m = c.is.ensures in
+    elim c.if-is.branch [
+      | then-is+else-behind-next w ↦
           let st = cut_standing l.cut (omega arith) in
-          let f = sym m ∙ w.if-magic_at-eq-SFFR.true in
+          let f = eqb-true _ _ (sym m ∙ w.if-is.true) in
           links-free l (omega arith) f w.if-behind-next.false _ _ _ _ w.behind-is
-          (ap (λ (x : Ref). x.0) w.next-is ∙ number_read st 0 (free-least st f) w.data_start-then-magic_at-eq-SFFR.ensures w.read_ref-next-then-magic_at-eq-SFFR.ensures)
+          (ap (λ (x : Ref). x.0) w.next-is ∙ number_read st 0 (free-least st f) w.data_start-then-is.ensures w.read_ref-next-then-is.ensures)
           c.after-r.ensures c.start-at-in-loop-at.ensures
-      | else-magic_at-eq-SFFR w ↦
-          links-other l (omega arith) (λ e. w.if-magic_at-eq-SFFR.false (m ∙ e)) _ _ _ _ w.behind-is (ap (λ (x : Ref). x.0) w.next-is)
+      | else-is w ↦
+          links-other l (omega arith) (eqb-false _ _ (sym m ∙ w.if-is.false)) _ _ _ _ w.behind-is (ap (λ (x : Ref). x.0) w.next-is)
           c.after-r.ensures c.start-at-in-loop-at.ensures
     ]
 

@@ -1,10 +1,12 @@
--- free_at: by the block's kind.
-use borrow.Author.Tests.{eq-eqb, ne_eqb}
-use mathlib.Core.Path.{sym, ◌∙◌}
+-- free_at: by whether the block is free.
+use Rattle.alloc.specs.Block.{units_for, size_at}
+use mathlib.Core.Bool.{Bool, cond}
+use mathlib.Core.Path.{ap, sym, ◌∙◌}
 use Rattle.alloc.proofs.chain.free_at.Goals as goal
 
-pub returns-then-magic_at-eq-SFFR : goal.returns-then-magic_at-eq-SFFR
-returns-then-magic_at-eq-SFFR c = c.units_at.ensures ∙ sym (rw (eq-eqb _ _ (sym c.magic_at.ensures ∙ c.if-magic_at-eq-SFFR.true)))
+pub returns-then-is : goal.returns-then-is
+returns-then-is c =
+    c.units_at.ensures ∙ sym (ap (λ (b : Bool). cond b (units_for (size_at c.args.image.now c.args.r.0)) 0) (sym c.is.ensures ∙ c.if-is.true))
 
 pub returns : goal.returns
-returns c = sym (rw (ne_eqb _ _ (λ e. c.if-magic_at-eq-SFFR.false (c.magic_at.ensures ∙ e))))
+returns c = sym (ap (λ (b : Bool). cond b (units_for (size_at c.args.image.now c.args.r.0)) 0) (sym c.is.ensures ∙ c.if-is.false))

@@ -52,7 +52,7 @@ write_free-requires c =
 
 pub returns : goal.returns
 returns c =
-    empty-done c.args.image.now c.args.root.0 c.requires c.start-front.ensures c.zero.ensures c.write_u32.ensures
+    empty-done c.args.image.now c.args.root.0 c.requires c.start-front.ensures c.zero.ensures (rw c.magic.ensures at c.write_u32.ensures)
     (omega (
       arith,
       c.plus.ensures,

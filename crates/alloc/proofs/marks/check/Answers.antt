@@ -31,8 +31,8 @@ returns-then-not-stands c =
     marking_broken c.loop-at.invariant _ c.requires
     c.clear.ensures (omega arith) _ c.stands.ensures c.if-not-stands.true
 
-pub magic_at-requires : goal.magic_at-requires
-magic_at-requires c = omega (arith, tiles_fits c.loop-at.invariant.tiles (omega arith) _ c.stands.ensures c.if-not-stands.false)
+pub mark_at-requires : goal.mark_at-requires
+mark_at-requires c = omega (arith, tiles_fits c.loop-at.invariant.tiles (omega arith) _ c.stands.ensures c.if-not-stands.false)
 
 pub bounds-marks-n : goal.bounds-marks-n
 bounds-marks-n c =
@@ -75,7 +75,7 @@ loop-at-smaller c =
 pub loop-at-preserved : goal.loop-at-preserved
 loop-at-preserved c =
     marks_on c.loop-at.invariant (omega arith) _ c.stands.ensures
-    c.if-not-stands.false _ _ _ refl c.magic_at.ensures c.mark_of.ensures _ _
+    c.if-not-stands.false _ _ refl c.mark_at.ensures _ _
     c.after-r.ensures c.start-at-in-loop-at.ensures
 
 pub shape_of-marks : goal.shape_of-marks

@@ -1,32 +1,19 @@
 -- both: both have room, so neither placing is refused.
 use Rattle.alloc.proofs.Choosing.{chooses_tightest}
-use Rattle.alloc.proofs.Pairs.{told, two_none, after_first, two_never, two_done}
-use Rattle.alloc.specs.Answers.{placed_at}
-use mathlib.Core.Path.{ap}
+use Rattle.alloc.proofs.Pairs.{two_none, after_first, two_never, two_done}
 use Rattle.alloc.proofs.pair.both.Goals as goal
 
-pub block-placed-requires : goal.block-placed-requires
-block-placed-requires c = (c.requires.sound, c.requires.object)
+pub block-requires : goal.block-requires
+block-requires c = (c.requires.sound, c.requires.object)
 
-pub returns-in_default : goal.returns-in_default
-returns-in_default c = two_none chooses_tightest c.requires
-    (told (ap placed_at c.in_default.is) c.block-placed.ensures)
+pub returns-in_err-first : goal.returns-in_err-first
+returns-in_err-first c = rw c.from_residual.ensures (two_none chooses_tightest c.requires c.in_err-first.ensures)
 
-pub block-other-requires : goal.block-other-requires
-block-other-requires c = (
-  after_first chooses_tightest c.requires
-      (told (ap placed_at c.in-At.is) c.block-placed.ensures),
-  c.requires.other,
-)
+pub block-requires-2 : goal.block-requires-2
+block-requires-2 c = (after_first chooses_tightest c.requires c.in_ok-first.ensures, c.requires.other)
 
-pub returns-in_default-other : goal.returns-in_default-other
-returns-in_default-other c = absurd (two_never chooses_tightest c.requires
-    (told (ap placed_at c.in-At.is)
-    c.block-placed.ensures)
-    (told (ap placed_at c.in_default-other.is) c.block-other.ensures))
+pub returns-in_err-second : goal.returns-in_err-second
+returns-in_err-second c = absurd (two_never chooses_tightest c.requires c.in_ok-first.ensures c.in_err-second.ensures)
 
 pub returns : goal.returns
-returns c = two_done chooses_tightest c.requires
-    (told (ap placed_at c.in-At.is)
-    c.block-placed.ensures)
-    (told (ap placed_at c.in-At-other.is) c.block-other.ensures)
+returns c = two_done chooses_tightest c.requires c.in_ok-first.ensures c.in_ok-second.ensures

@@ -1,16 +1,14 @@
 -- block: the tightest gap, then the stores.
 use Rattle.alloc.proofs.Stores.{found-gap, places_none, places_some, found-enough}
-use Rattle.alloc.specs.Answers.{fit_of}
-use mathlib.Core.Path.{ap}
+use mathlib.Core.Path.{refl}
 use Rattle.alloc.proofs.place.block.Goals as goal
 
-pub returns-in_default : goal.returns-in_default
-returns-in_default c = places_none _ _ (found-gap _ c.find-fit.ensures c.units_for.ensures (ap fit_of c.in_default.is))
+pub returns-in_err-gap : goal.returns-in_err-gap
+returns-in_err-gap c = rw c.from_residual.ensures (places_none _ _ (found-gap _ c.in_err-gap.ensures c.units_for.ensures refl))
 
 pub carve-requires : goal.carve-requires
 carve-requires c =
-    let f = found-gap _ c.find-fit.ensures c.units_for.ensures
-    (ap fit_of c.in-In.is) in
+    let f = found-gap _ c.in_ok-gap.ensures c.units_for.ensures refl in
     record {
       sound = c.requires.0;
       object = c.requires.1;
@@ -19,7 +17,4 @@ carve-requires c =
     }
 
 pub returns : goal.returns
-returns c =
-    places_some _ _ (found-gap _ c.find-fit.ensures
-    c.units_for.ensures (ap fit_of c.in-In.is))
-    c.carve.ensures
+returns c = places_some _ _ (found-gap _ c.in_ok-gap.ensures c.units_for.ensures refl) c.carve.ensures

@@ -21,5 +21,5 @@ returns c =
     )) (ap (λ (n : ℕ). be32 SFfr ++ (be32 (n - 8) ++ be64 a.next.0)) c.bytes_of.ensures)
     c.start-at.ensures
     c.plus.ensures c.plus-2.ensures
-    c.write_u32.ensures
+    (rw c.magic.ensures at c.write_u32.ensures)
     c.write_u32-2.ensures c.write_ref.ensures

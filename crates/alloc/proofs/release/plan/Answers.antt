@@ -68,11 +68,7 @@ returns-then-adjoins c =
     c.last_free-b.ensures
     c.after-end.ensures
     c.behind-tail.ensures (sym c.adjoins.ensures ∙ c.if-adjoins.true)
-    _ _ _ _ (omega (
-      arith,
-      inside c.requires,
-      c.data_start.ensures,
-    )) c.free_units_at-units.ensures.is (omega (
+    _ _ _ c.free_units_at-units.ensures.is (omega (
       arith,
       c.between-own.ensures,
     )) (omega (
