@@ -12,19 +12,21 @@ use lib.ListN.{length, get_or, take, drop, length-replicate, length-map, get_or-
 use lib.Seq.{ext_get_or, get_or-take, length-take-le}
 use Rattle.storage.specs.Bytes.{splice, zeroed}
 use Rattle.storage.proofs.Splice.{length-splice, splice-inside}
-use Rattle.alloc.specs.Block.{Block, SF01, SFde, SFna, SFre, SFfr, units, blocks_of, units_for, size_at}
+use Rattle.alloc.specs.Block.{Block, SF01, SFde, SFna, SFre, SFfr, units, blocks_of, block_of, units_for, size_at}
 use Rattle.alloc.specs.Sound.{Tiled}
 use Rattle.alloc.specs.Tiling.{length_allowed}
 use Rattle.alloc.specs.Volume.{volume_of, objects, chained}
 use Rattle.alloc.specs.Marks.{mark_of, marks_from, marks_of, Marked, Marking}
 use Rattle.alloc.proofs.Tiles.{tiles_length}
 use Rattle.alloc.proofs.Cuts.{length-parts, tiled-length, Cut, cut_start, cut_on}
-use Rattle.tree.proofs.Visits.{Visits, visits_start, visits_on, visits_end}
+use Rattle.tree.proofs.Visits.{Visits, visits_start, visits_on, visits_end, object_holds}
 use Rattle.alloc.proofs.Marking.{marks_of_long}
 use Rattle.tree.specs.Verdict.{Verdict, BlockRule, rule3, rule4, rule5, rule6, rule7, keeps, breaker_of, unbroken, block_rules, verdict_on, verdict, well_formed, marks_after}
-use Rattle.tree.specs.Answers.{Ready, KeepsAll, NoneBroken}
+use Rattle.tree.specs.Answers.{Ready, ObjectAt, KeepsAll, NoneBroken}
+use Rattle.tree.specs.Fields.{slots}
+use Rattle.tree.specs.Rules.{slots_stand, named_once}
 use Rattle.tree.specs.Marks.{noted, Noted, Fresh, Countable, Annotated, Judges, Decides, trimmed}
-use Rattle.tree.proofs.Noting.{noted_tells, noted-annotated}
+use Rattle.tree.proofs.Noting.{noted_tells, noted-annotated, rule_4_at}
 use Rattle.tree.proofs.Judging.{judged_tiling, judged_after, blocks-kept}
 
 -- ---- the namings are counted
@@ -170,14 +172,8 @@ long_not n h = rw (lt-leb n 1048576 h) (go (eqb (n % 16) 0) (leb 64 n))
     go true false = refl
     go false b = refl
 
-judged_over : (s : List ℕ) → 1048576 < length s → record { rule = 1; place = 0 } ≡ verdict s
+pub judged_over : (s : List ℕ) → 1048576 < length s → record { rule = 1; place = 0 } ≡ verdict s
 judged_over s h = judged_tiling s (some 0) 0 (tiles_length s (long_not (length s) h)) refl
-
--- the rule that is broken where there is no byte is the one that is broken where there are too many
-pub judged_as_none : (s : List ℕ) → 1048576 < length s → {v : Verdict} → v ≡ verdict [] → record { rule = v.rule; place = 0 } ≡ verdict s
-unfolding length_allowed
-judged_as_none s h {v} e =
-    ap (λ (x : Verdict). record { rule = x.rule; place = 0 }) (e ∙ sym (judged_tiling [] (some 0) 0 (tiles_length [] refl) refl)) ∙ judged_over s h
 
 pub countable : {s m : List ℕ} (root : ℕ) {o : Option ℕ} → Fresh s m → o ≡ breaker_of rule3 (objects (volume_of s)) root → o ≡ none → Countable s m root
 countable root f e z = record { fresh = f; rule_3 = sym e ∙ z }
@@ -187,9 +183,16 @@ countable root f e z = record { fresh = f; rule_3 = sym e ∙ z }
 pub never_true : {C : Type 0} → false ≡ true → C
 never_true e = let z : ◌≡◌ {A = ℕ} 0 1 = cc in absurd (omega arith)
 
--- rule 6 is ready where rule 3 holds, rule 4 where the namings are counted
-pub ready_each : {s m : List ℕ} (root : ℕ) → Marked s m → Noted s m → breaker_of rule3 (objects (volume_of s)) root ≡ none → (n : BlockRule) → Ready s m n root
-ready_each root w k e n = record { marked = w; counts = λ _. k; slots_hold = λ _. e }
+-- what an object is asked by rule 4, and what rule 6 relies on
+pub ready-naming : {s m : List ℕ} {root r : ℕ} → Ready s m root → ObjectAt s r
+    → eqb (get_or m r 0 / 8) (cond (eqb r root) 0 1) ≡ named_once (objects (volume_of s)) root r (block_of s r)
+ready-naming {root = root} k o = rule_4_at k.noted-there o root
+
+pub ready_slots : {s m : List ℕ} {root r : ℕ} → Ready s m root → ObjectAt s r → slots_stand (objects (volume_of s)) (slots (block_of s r)) ≡ true
+ready_slots {s} {root = root} k o = object_holds (keeps rule3 (objects (volume_of s)) root) o k.rule_3
+
+pub ready_mark : {s m : List ℕ} {root r : ℕ} → Ready s m root → ObjectAt s r → r < length m
+ready_mark k o = omega (arith, k.marked.long, o.standing.fits)
 
 pub none_verdict : {s : List ℕ} {root : ℕ} → breaker_of rule3 (objects (volume_of s)) root ≡ none → NoneBroken s root → unbroken ≡ block_rules (objects (volume_of s)) root unbroken
 none_verdict {s} {root} e k = sym (blocks-kept (objects (volume_of s)) root go unbroken)

@@ -11,45 +11,31 @@ use crate::fields;
 use alloc::access;
 use storage::Ref;
 
-fn wide(b: u8) -> u32
-    ensures { (result ≡ b) × (result < 256) }
-{
-    b as u32
-}
-
 // 16 bits of a name.
-fn print_of(name: &[u8]) -> u32
-    ensures { (result ≡ print_of name.now) × (result < 65536) }
+fn print_of(name: &[u8]) -> u16
+    ensures { result ≡ print_of name.now }
 {
-    let mut h: u32 = 0;
-    let mut i: usize = 0;
-    while i < name.len() {
-        h = (h * 251 + wide(name[i])) % 65536;
-        i += 1;
-    }
-    h
+    name.iter().fold(0, |h: u16, b| ((u32::from(h) * 251 + u32::from(*b)) % 65536) as u16)
 }
 
 // 16 bits of the data of the block at `r`.
-fn print_at(image: &[u8], r: Ref) -> u32
+fn print_at(image: &[u8], r: Ref) -> u16
     requires { Standing image.now r.0 }
-    ensures { (result ≡ print_of (block_of image.now r.0).body) × (result < 65536) }
+    ensures { result ≡ print_of (block_of image.now r.0).body }
 {
     print_of(access::body(image, r))
 }
 
 // 16 bits of the name in slot `i` of the directory at `r`. Those of an empty slot are any; the slot's number spreads empty slots over the chains.
-fn slot_print(image: &[u8], r: Ref, i: usize) -> u32
+fn slot_print(image: &[u8], r: Ref, i: usize) -> u16
     requires { SoundDirectory image.now r.0 × (i < total (block_of image.now r.0)) }
-    ensures { PrintIs image.now r.0 i result × (result < 65536) }
+    ensures { PrintIs image.now r.0 i result }
 {
     let s = fields::slot_at(image, r, i);
-    let object = s.object;
-    if object.0 == 0 {
-        return (i % 1024) as u32;
+    if !s.is_taken() {
+        return (i % 1024) as u16;
     }
-    let name = s.name;
-    print_at(image, name)
+    print_at(image, s.name)
 }
 
 // Those of all slots.
@@ -57,11 +43,8 @@ pub fn fill_prints(image: &[u8], r: Ref, prints: &mut [u16])
     requires { SoundDirectory image.now r.0 × (total (block_of image.now r.0) ≤ length prints.old) }
     ensures { Printed image.now r.0 prints.new }
 {
-    let n = fields::slot_count(image, r);
-    let mut i: usize = 0;
-    while i < n {
-        prints[i] = slot_print(image, r, i) as u16;
-        i += 1;
+    for i in 0..fields::slot_count(image, r) {
+        prints[i] = slot_print(image, r, i);
     }
 }
 
@@ -69,7 +52,7 @@ pub fn fill_prints(image: &[u8], r: Ref, prints: &mut [u16])
 fn chain_of(print: u16) -> usize
     ensures { (result ≡ print % 1024) × (result < 1024) }
 {
-    (print % 1024) as usize
+    usize::from(print % 1024)
 }
 
 // A link from each slot to the next of its chain: how far before `n` that is, 0 where there is none.
@@ -77,9 +60,7 @@ pub fn chain_slots(prints: &[u16], heads: &mut [u16], links: &mut [u16], n: usiz
     requires { Unchained prints.now heads.old links.old n }
     ensures { Linked prints.now links.new n }
 {
-    let mut i = n;
-    while 0 < i {
-        i -= 1;
+    for i in (0..n).rev() {
         let h = chain_of(prints[i]);
         links[i] = heads[h];
         heads[h] = (n - i) as u16;
@@ -91,5 +72,5 @@ pub fn next_along(prints: &[u16], links: &[u16], j: usize, n: usize) -> usize
     requires { Linked prints.now links.now n × (j < n) × (n ≤ 1024) }
     ensures { Onward prints.now j n result }
 {
-    n - links[j] as usize
+    n - usize::from(links[j])
 }

@@ -1,37 +1,77 @@
 // The verdict on an image: the lowest-numbered broken rule, and the first block in storage order that breaks it.
 
-ghost use Rattle.std.specs.Prelude.{◌≡◌, ◌/◌, ◌≤◌, ◌<◌, length, take, true};
-ghost use Rattle.std.proofs.Math.Option.{none};
+ghost use Rattle.std.specs.Prelude.{◌≡◌, ℕ, ◌*◌, ◌/◌, ◌≤◌, ◌<◌, length, take, true, Bool};
 ghost use Rattle.storage.specs.Bytes.{splice};
+ghost use Rattle.alloc.specs.Block.{Block};
 ghost use Rattle.alloc.specs.Marks.{Marked};
-ghost use Rattle.tree.specs.Marks.{Noted, Later, Slotted, Annotated, Fresh, Judges, Decides, trimmed};
-ghost use Rattle.alloc.specs.Block.{block_of};
+ghost use Rattle.alloc.specs.Sound.{Tiled};
 ghost use Rattle.alloc.specs.Volume.{volume_of, objects, chained};
+ghost use Rattle.tree.specs.Marks.{Later, Slotted, Annotated, Fresh, Judges, Decides, trimmed};
 ghost use Rattle.tree.specs.Rules.{root_stands};
-ghost use Rattle.tree.specs.Verdict.{BlockRule, breaker_of, rule3, keeps, unbroken, block_rules, verdict_on, verdict};
-ghost use Rattle.tree.specs.WellFormed.{number};
-ghost use Rattle.tree.specs.Answers.{rule_of, breach_at, verdict_of, spared, Ready, ReadyAt, KeepsAll, NoneBroken};
+ghost use Rattle.tree.specs.Verdict.{breaker, or_else, unless, unbroken, block_rules, verdict_on, verdict};
+ghost use Rattle.tree.specs.Answers.{rule_number, place_of, verdict_of, Ready, ObjectAt, Asks, Computes, KeepsAll, NoneBroken};
 
 use crate::fields;
 use alloc::tiling::Tiling;
 use alloc::{block, marks};
 use storage::Ref;
 
-// The rules that are looked at block by block.
-#[derive(Clone, Copy)]
+// A rule of the definition.
+#[derive(Clone, Copy, PartialEq, Eq)]
 pub enum Rule {
+    Tiling,
+    Root,
     Slots,
     Naming,
     Depth,
     Names,
     Files,
+    Chain,
 }
 
-// The first block that breaks a rule.
+impl Rule {
+    // Its number in the definition.
+    pub fn number(self) -> u8
+        ensures { result ≡ rule_number self }
+    {
+        match self {
+            Rule::Tiling => 1,
+            Rule::Root => 2,
+            Rule::Slots => 3,
+            Rule::Naming => 4,
+            Rule::Depth => 5,
+            Rule::Names => 6,
+            Rule::Files => 7,
+            Rule::Chain => 8,
+        }
+    }
+}
+
+// A broken rule, and the first block that breaks it: 0 for a wrong length and for the rules of the whole image.
 #[derive(Clone, Copy)]
-pub enum Breach {
-    Nowhere,
-    At(Ref),
+pub struct Breach {
+    pub rule: Rule,
+    pub place: Ref,
+}
+
+// The lowest-numbered broken rule, if one is.
+pub type Verdict = Result<(), Breach>;
+
+// The verdict on one rule, by the place where it is broken.
+fn kept(rule: Rule, breaker: Option<Ref>) -> Verdict
+    ensures { verdict_of result ≡ or_else (rule_number rule) (place_of breaker) unbroken }
+{
+    match breaker {
+        Some(place) => Err(Breach { rule, place }),
+        None => Ok(()),
+    }
+}
+
+// The place of a rule of the whole image, where it is broken.
+fn unless(holds: bool) -> Option<Ref>
+    ensures { place_of result ≡ unless holds }
+{
+    if holds { None } else { Some(Ref(0)) }
 }
 
 // Rule 2.
@@ -45,71 +85,31 @@ fn root_stands(image: &[u8], marks: &[u8], root: Ref) -> bool
     fields::parent_of(image, root).0 == root.0
 }
 
-// A rule of the block at `r`. Free blocks break none of these.
-fn keeps_rule(image: &[u8], marks: &[u8], rule: Rule, root: Ref, r: Ref) -> bool
-    requires { ReadyAt image.now marks.now (rule_of rule) root.0 r.0 }
-    ensures { result ≡ spared (keeps (rule_of rule) (objects (volume_of image.now)) root.0) r.0 (block_of image.now r.0) }
-{
-    if block::magic_at(image, r) == block::SFFR {
-        return true;
-    }
-    match rule {
-        Rule::Slots => crate::slots::keeps(image, marks, r),
-        Rule::Naming => crate::naming::keeps(marks, root, r),
-        Rule::Depth => crate::depth::keeps(image, marks, root, r),
-        Rule::Names => crate::names::keeps(image, r),
-        Rule::Files => crate::files::keeps(image, r),
-    }
-}
-
-// The first block that breaks a rule.
-fn first_breaker(image: &[u8], marks: &[u8], rule: Rule, root: Ref) -> Breach
-    requires { Ready image.now marks.now (rule_of rule) root.0 }
-    ensures { breach_at result ≡ breaker_of (rule_of rule) (objects (volume_of image.now)) root.0 }
+// The first block that fails a test. Free blocks fail none.
+fn first_breaker<F: Fn(Ref) -> bool>(image: &[u8], keeps: F) -> Option<Ref>
+    requires tiled { Tiled image.now }
+    requires tested { Asks (F.pre keeps) image.now }
+    ensures { (p : ℕ → Block → Bool) → Computes (F.post keeps) image.now p → place_of result ≡ breaker p (objects (volume_of image.now)) }
 {
     let len = image.len();
     let mut r = Ref(2);
     let mut at = storage::start(r).0;
     while at < len {
-        if !keeps_rule(image, marks, rule, root, r) {
-            return Breach::At(r);
+        if block::magic_at(image, r) != block::SFFR && !keeps(r) {
+            return Some(r);
         }
         r = block::after(image, r);
         at = storage::start(r).0;
     }
-    Breach::Nowhere
+    None
 }
 
-// The lowest-numbered broken rule, 0 where none is, and its place.
-#[derive(Clone, Copy)]
-pub struct Verdict {
-    pub rule: u8,
-    pub place: Ref,
-}
-
-// The rules by their numbers.
-fn rule_of(n: u8) -> Rule
-    requires { (3 ≤ n) × (n < 8) }
-    ensures { number (rule_of result) ≡ n }
-{
-    match n {
-        3 => Rule::Slots,
-        4 => Rule::Naming,
-        5 => Rule::Depth,
-        6 => Rule::Names,
-        _ => Rule::Files,
-    }
-}
-
-// Whether the block at `r` keeps rules 4 to 7.
+// Whether the object at `r` keeps rules 4 to 7.
 fn keeps_all(image: &[u8], marks: &[u8], root: Ref, r: Ref) -> bool
-    requires { (n : BlockRule) → ReadyAt image.now marks.now n root.0 r.0 }
+    requires { Ready image.now marks.now root.0 × ObjectAt image.now r.0 }
     ensures { result ≡ true → KeepsAll image.now root.0 r.0 }
 {
     let magic = block::magic_at(image, r);
-    if magic == block::SFFR {
-        return true;
-    }
     if !crate::naming::keeps(marks, root, r) {
         return false;
     }
@@ -125,9 +125,9 @@ fn keeps_all(image: &[u8], marks: &[u8], root: Ref, r: Ref) -> bool
     crate::names::keeps(image, r)
 }
 
-// Whether every block does, and the free chain keeps rule 8, in one walk.
+// Whether every object does, and the free chain keeps rule 8, in one walk.
 fn none_broken(image: &[u8], marks: &[u8], root: Ref) -> bool
-    requires { (n : BlockRule) → Ready image.now marks.now n root.0 }
+    requires { Ready image.now marks.now root.0 }
     ensures { result ≡ true → NoneBroken image.now root.0 × (chained image.now ≡ true) }
 {
     let len = image.len();
@@ -156,20 +156,13 @@ fn none_broken(image: &[u8], marks: &[u8], root: Ref) -> bool
 
 // Rules 4 to 7, in their order, where rule 3 holds and the namings are counted.
 fn later_broken(image: &[u8], marks: &[u8], root: Ref) -> Verdict
-    requires { Marked image.now marks.now × Noted image.now marks.now × (breaker_of rule3 (objects (volume_of image.now)) root.0 ≡ none) }
+    requires { Ready image.now marks.now root.0 }
     ensures { verdict_of result ≡ block_rules (objects (volume_of image.now)) root.0 unbroken }
 {
-    let mut n: u8 = 4;
-    while n < 8 {
-        if let Breach::At(place) = first_breaker(image, marks, rule_of(n), root) {
-            return Verdict { rule: n, place };
-        }
-        n += 1;
-    }
-    Verdict {
-        rule: 0,
-        place: Ref(0),
-    }
+    kept(Rule::Naming, first_breaker(image, |r| crate::naming::keeps(marks, root, r)))?;
+    kept(Rule::Depth, first_breaker(image, |r| crate::depth::keeps(image, marks, root, r)))?;
+    kept(Rule::Names, first_breaker(image, |r| crate::names::keeps(image, r)))?;
+    kept(Rule::Files, first_breaker(image, |r| crate::files::keeps(image, r)))
 }
 
 // Rules 4 to 8: one walk where they hold, or else rule by rule.
@@ -178,41 +171,29 @@ fn later_rules(image: &[u8], marks: &[u8], root: Ref) -> Verdict
     ensures { verdict_of result ≡ verdict_on (objects (volume_of image.now)) (volume_of image.now).root (chained image.now) }
 {
     if none_broken(image, marks, root) {
-        return Verdict {
-            rule: 0,
-            place: Ref(0),
-        };
+        return Ok(());
     }
-    let found = later_broken(image, marks, root);
-    if found.rule != 0 {
-        return found;
-    }
-    if alloc::chain::check(image) {
-        return found;
-    }
-    Verdict {
-        rule: 8,
-        place: Ref(0),
-    }
+    later_broken(image, marks, root)?;
+    kept(Rule::Chain, unless(alloc::chain::check(image)))
 }
 
 // Rule 3, block after block. What the slots of a block name is counted where they stand.
-fn first_unslotted(image: &[u8], marks: &mut [u8]) -> Breach
+fn first_unslotted(image: &[u8], marks: &mut [u8]) -> Option<Ref>
     requires { Fresh image.now marks.old }
-    ensures { Slotted image.now (breach_at result) marks.old marks.new }
+    ensures { Slotted image.now (place_of result) marks.old marks.new }
 {
     let len = image.len();
     let mut d = Ref(2);
     let mut at = storage::start(d).0;
     while at < len {
         if !crate::slots::keeps(image, marks, d) {
-            return Breach::At(d);
+            return Some(d);
         }
         crate::naming::note_block(image, marks, d);
         d = block::after(image, d);
         at = storage::start(d).0;
     }
-    Breach::Nowhere
+    None
 }
 
 // Rules 2 to 8, of an image that keeps rule 1.
@@ -222,16 +203,8 @@ fn after_tiling(image: &[u8], marks: &mut [u8]) -> Verdict
     ensures marks { Annotated image.now marks.old marks.new }
 {
     let root = alloc::chain::root(image);
-    if !root_stands(image, marks, root) {
-        return Verdict {
-            rule: 2,
-            place: Ref(0),
-        };
-    }
-    let breach = first_unslotted(image, marks);
-    if let Breach::At(place) = breach {
-        return Verdict { rule: 3, place };
-    }
+    kept(Rule::Root, unless(root_stands(image, marks, root)))?;
+    kept(Rule::Slots, first_unslotted(image, marks))?;
     later_rules(image, marks, root)
 }
 
@@ -242,7 +215,7 @@ fn decide(image: &[u8], marks: &mut [u8]) -> Verdict
 {
     let tiling = marks::check(image, marks);
     match tiling {
-        Tiling::Broken(place) => Verdict { rule: 1, place },
+        Tiling::Broken(place) => kept(Rule::Tiling, Some(place)),
         Tiling::Whole => after_tiling(image, marks),
     }
 }
@@ -252,10 +225,8 @@ fn trim(marks: &mut [u8], n: usize)
     requires { n ≤ length marks.old }
     ensures { marks.new ≡ splice marks.old 0 (trimmed (take n marks.old)) }
 {
-    let mut i: usize = 0;
-    while i < n {
-        marks[i] = marks[i] % 8;
-        i += 1;
+    for mark in marks[..n].iter_mut() {
+        *mark %= 8;
     }
 }
 
@@ -264,43 +235,22 @@ pub fn judge_marked(image: &[u8], marks: &mut [u8]) -> Verdict
     requires { length image.now / 16 ≤ length marks.old }
     ensures { Judges image.now marks.old (verdict_of result) marks.new }
 {
-    let n = storage::units_of(image.len()) as usize;
     let v = decide(image, marks);
-    if v.rule != 0 {
+    if let Err(breach) = v {
         marks::clear(image, marks);
-        return v;
+        return Err(breach);
     }
-    trim(marks, n);
-    v
+    trim(marks, storage::units_of(image.len()) as usize);
+    Ok(())
 }
 
-// Up to 64 units.
+// The same over `N` marks of its own.
 #[inline(never)]
-fn judge_small(image: &[u8]) -> Verdict
-    requires { length image.now ≤ 1024 }
+fn judge_with<const N: usize>(image: &[u8]) -> Verdict
+    requires { (length image.now ≤ 16 * N) × (N ≤ 65536) }
     ensures { verdict_of result ≡ verdict image.now }
 {
-    let mut marks = [0u8; 64];
-    decide(image, &mut marks)
-}
-
-// Up to 4,096 units.
-#[inline(never)]
-fn judge_middle(image: &[u8]) -> Verdict
-    requires { length image.now ≤ 65536 }
-    ensures { verdict_of result ≡ verdict image.now }
-{
-    let mut marks = [0u8; 4096];
-    decide(image, &mut marks)
-}
-
-// Up to 65,536 units, the most that an image may have.
-#[inline(never)]
-fn judge_large(image: &[u8]) -> Verdict
-    requires { length image.now ≤ 1048576 }
-    ensures { verdict_of result ≡ verdict image.now }
-{
-    let mut marks = [0u8; 65536];
+    let mut marks = [0u8; N];
     decide(image, &mut marks)
 }
 
@@ -309,19 +259,10 @@ fn judge_large(image: &[u8]) -> Verdict
 pub fn judge(image: &[u8]) -> Verdict
     ensures { verdict_of result ≡ verdict image.now }
 {
-    let len = image.len();
-    if 1048576 < len {
-        let none = judge(&image[0..0]);
-        return Verdict {
-            rule: none.rule,
-            place: Ref(0),
-        };
+    match image.len() {
+        0..=1024 => judge_with::<64>(image),
+        1025..=65536 => judge_with::<4096>(image),
+        65537..=1048576 => judge_with::<65536>(image),
+        _ => kept(Rule::Tiling, Some(Ref(0))),
     }
-    if len <= 1024 {
-        return judge_small(image);
-    }
-    if len <= 65536 {
-        return judge_middle(image);
-    }
-    judge_large(image)
 }

@@ -20,16 +20,17 @@ pub parent_of-requires : goal.parent_of-requires
 parent_of-requires t c =
     (kind-directory _ _ c.requires.tiled c.kind_at.ensures (sym c.is_directory.ensures ∙ c.if-not-is_directory.false)).0
 
-pub returns-in_default : goal.returns-in_default
-returns-in_default t c =
-    climb_none _ _ _ c.if-r-root.false _ _ c.if-left-eq0.false
+pub returns-in_err-steps : goal.returns-in_err-steps
+returns-in_err-steps t c =
+    ap climbed c.from_residual.ensures
+    ∙ climb_none _ _ _ c.if-r-root.false _ _ c.if-left-eq0.false
     (kind-is _ _ c.kind_at.ensures (sym c.is_directory.ensures ∙ c.if-not-is_directory.false))
     (c.parent_of.ensures ∙ ap parent
     (kind-directory _ _ c.requires.tiled c.kind_at.ensures (sym c.is_directory.ensures ∙ c.if-not-is_directory.false)).1)
-    (sym (ap climbed c.in_default.is) ∙ c.climb_from-up.ensures)
+    (sym (ap climbed c.in_err-steps.was) ∙ c.climb_from.ensures)
 
 pub overflow_add-result : goal.overflow_add-result
-overflow_add-result t c = omega (arith, climb-low _ _ _ _ _ (sym (ap climbed c.in-Top.is) ∙ c.climb_from-up.ensures))
+overflow_add-result t c = omega (arith, climb-low _ _ _ _ _ (sym (ap climbed c.in_ok-steps.was) ∙ c.climb_from.ensures))
 
 pub returns : goal.returns
 returns t c =
@@ -37,4 +38,4 @@ returns t c =
     (kind-is _ _ c.kind_at.ensures (sym c.is_directory.ensures ∙ c.if-not-is_directory.false))
     (c.parent_of.ensures ∙ ap parent
     (kind-directory _ _ c.requires.tiled c.kind_at.ensures (sym c.is_directory.ensures ∙ c.if-not-is_directory.false)).1) _
-    (sym (ap climbed c.in-Top.is) ∙ c.climb_from-up.ensures)
+    (sym (ap climbed c.in_ok-steps.was) ∙ c.climb_from.ensures)

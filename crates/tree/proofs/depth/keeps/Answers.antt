@@ -2,6 +2,7 @@
 use Rattle.tree.proofs.Rows.{block-directory}
 use Rattle.tree.proofs.Tests.{block-other, depth-other, depth_lost, depth_low, depth_deep}
 use Rattle.tree.specs.Answers.{climbed}
+use borrow.Author.Tests.{le-leb}
 use mathlib.Core.Path.{sym, ap, ◌∙◌}
 use native.Mathlib.Omega.{arith}
 use Rattle.tree.proofs.depth.keeps.Goals as goal
@@ -22,8 +23,9 @@ returns-in_default c =
 
 pub returns-then-steps-le15 : goal.returns-then-steps-le15
 returns-then-steps-le15 c =
-    depth_low _ _ _ _ (block-directory _ _ (sym c.magic_at.ensures ∙ c.if-magic_at-ne-SFDE.false)) _
-    (sym (ap climbed c.in-Top.is) ∙ c.climb_from-up.ensures) c.if-steps-le15.true
+    le-leb _ _ c.if-steps-le15.true
+    ∙ depth_low _ _ _ _ (block-directory _ _ (sym c.magic_at.ensures ∙ c.if-magic_at-ne-SFDE.false)) _
+    (sym (ap climbed c.in-Some.is) ∙ c.climb_from-up.ensures) c.if-steps-le15.true
 
 pub taken_count-requires : goal.taken_count-requires
 taken_count-requires c =
@@ -33,9 +35,9 @@ taken_count-requires c =
           ∙ c.if-magic_at-ne-SFDE.false;
     }
 
-pub returns : goal.returns
-returns c =
+pub returns-else-steps-le15 : goal.returns-else-steps-le15
+returns-else-steps-le15 c =
     depth_deep _ _ _ _ (block-directory _ _
     (sym c.magic_at.ensures ∙ c.if-magic_at-ne-SFDE.false)) _ _
-    (sym (ap climbed c.in-Top.is) ∙ c.climb_from-up.ensures) c.if-steps-le15.false
+    (sym (ap climbed c.in-Some.is) ∙ c.climb_from-up.ensures) c.if-steps-le15.false
     c.taken_count.ensures

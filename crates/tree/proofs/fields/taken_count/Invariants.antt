@@ -1,5 +1,4 @@
 -- taken_count: slot after slot.
-use Prim.Native.Nat.{◌-◌}
 use Rattle.alloc.specs.Block.{block_of}
 use Rattle.tree.proofs.Rows.{Counting}
 use Rattle.tree.specs.Fields.{taken}
@@ -7,6 +6,3 @@ use Rattle.tree.proofs.fields.taken_count.Given as goal
 
 abbrev pub invariant-loop-i : goal.invariant-loop-i
 invariant-loop-i l = Counting taken (block_of l.image l.r.0) l.count l.i
-
-abbrev pub decreases-loop-i : goal.decreases-loop-i
-decreases-loop-i l = l.n - l.i

@@ -1,20 +1,22 @@
 -- note_slot: an empty slot names nothing; a taken one its name and its object.
 use Rattle.tree.proofs.Noting.{noted-empty, refs-inside, noted-taken}
+use Rattle.tree.specs.Answers.{slot_of}
+use Rattle.tree.proofs.Rows.{slot-empty, slot-names}
 use lib.ListN.{length, length-set}
 use mathlib.Core.Path.{ap}
 use native.Mathlib.Omega.{arith}
 use Rattle.tree.proofs.naming.note_slot.Goals as goal
 
-pub returns-then-object-eq0 : goal.returns-then-object-eq0
-returns-then-object-eq0 c =
+pub returns-then-not-is_taken : goal.returns-then-not-is_taken
+returns-then-not-is_taken c =
     noted-empty c.requires.0 c.requires.1
-    c.requires.2 c.slot_at-s.ensures c.if-object-eq0.true
+    c.requires.2 c.slot_at-s.ensures (slot-empty (slot_of c.slot_at-s.result) c.is_taken.ensures c.if-not-is_taken.true)
 
 pub count-requires : goal.count-requires
 count-requires c =
     (refs-inside c.requires.0
     c.requires.1 c.requires.2
-    c.slot_at-s.ensures c.if-object-eq0.false).0
+    c.slot_at-s.ensures (slot-names (slot_of c.slot_at-s.result) c.is_taken.ensures c.if-not-is_taken.false)).0
 
 pub count-requires-2 : goal.count-requires-2
 count-requires-2 c =
@@ -25,7 +27,7 @@ count-requires-2 c =
           c.requires.0
           c.requires.1
           c.requires.2
-          c.slot_at-s.ensures c.if-object-eq0.false).1,
+          c.slot_at-s.ensures (slot-names (slot_of c.slot_at-s.result) c.is_taken.ensures c.if-not-is_taken.false)).1,
     )
 
 pub returns : goal.returns
@@ -34,5 +36,5 @@ returns c =
     c.requires.1
     c.requires.2
     c.slot_at-s.ensures
-    c.if-object-eq0.false c.may_name-right.ensures
+    (slot-names (slot_of c.slot_at-s.result) c.is_taken.ensures c.if-not-is_taken.false) c.may_name-right.ensures
     c.count.ensures c.count-2.ensures

@@ -7,26 +7,17 @@ use mathlib.Core.Path.{refl}
 use native.Mathlib.Omega.{arith}
 use Rattle.tree.proofs.naming.note_slots.Goals as goal
 
-pub slot_count-n-requires : goal.slot_count-n-requires
-slot_count-n-requires c = c.requires.1.directory
-
 pub loop-i-init : goal.loop-i-init
 loop-i-init c = notes_start _ _ c.requires.0
 
 pub note_slot-requires : goal.note_slot-requires
-note_slot-requires c = (c.loop-i.invariant.annotated.marked, c.requires.1, omega (arith, c.slot_count-n.ensures))
-
-pub overflow_add-i : goal.overflow_add-i
-overflow_add-i c = omega arith
-
-pub loop-i-smaller : goal.loop-i-smaller
-loop-i-smaller c = omega arith
+note_slot-requires c = (c.loop-i.invariant.annotated.marked, c.requires.1, omega (arith, c.slot_count-i-end.ensures))
 
 pub loop-i-preserved : goal.loop-i-preserved
 loop-i-preserved c =
     let h : c.loop-i.i < total
     (block_of c.args.image.now
-    c.args.d.0) = omega (arith, c.slot_count-n.ensures) in
+    c.args.d.0) = omega (arith, c.slot_count-i-end.ensures) in
     notes_on c.loop-i.invariant h
     (slot_here c.loop-i.invariant.annotated.marked c.requires.1 h refl) _
     c.note_slot.ensures
@@ -35,4 +26,4 @@ pub shape_of-marks : goal.shape_of-marks
 shape_of-marks c = c.loop-i.invariant.long
 
 pub returns : goal.returns
-returns c = notes_all c.loop-i.invariant (directory-is c.requires.1.directory) (omega (arith, c.slot_count-n.ensures))
+returns c = notes_all c.loop-i.invariant (directory-is c.requires.1.directory) (omega (arith, c.slot_count-i-end.ensures))

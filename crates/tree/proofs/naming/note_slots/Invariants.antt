@@ -1,11 +1,7 @@
 -- note_slots: slot after slot.
-use Prim.Native.Nat.{◌-◌}
 use Rattle.alloc.specs.Block.{block_of}
 use Rattle.tree.proofs.Noting.{Notes}
 use Rattle.tree.proofs.naming.note_slots.Given as goal
 
 abbrev pub invariant-loop-i : goal.invariant-loop-i
 invariant-loop-i l = Notes l.image l.d.0 (block_of l.image l.d.0) l.initial.marks l.marks l.i
-
-abbrev pub decreases-loop-i : goal.decreases-loop-i
-decreases-loop-i l = l.n - l.i

@@ -5,18 +5,12 @@ use Rattle.tree.proofs.prints.chain_slots.Goals as goal
 pub loop-i-init : goal.loop-i-init
 loop-i-init c = linking_start c.requires
 
-pub overflow_sub-i : goal.overflow_sub-i
-overflow_sub-i c = omega arith
-
 pub offset_bounds-prints-i : goal.offset_bounds-prints-i
 offset_bounds-prints-i c = omega (arith, c.requires.few, c.requires.prints, c.loop-i.invariant.inside)
 
 pub bounds-prints-i : goal.bounds-prints-i
 bounds-prints-i c =
     omega (arith, c.requires.few, c.requires.prints, c.loop-i.invariant.inside)
-
-pub chain_of-h-requires : goal.chain_of-h-requires
-chain_of-h-requires c = tt
 
 pub offset_bounds-heads-h : goal.offset_bounds-heads-h
 offset_bounds-heads-h c =
@@ -121,9 +115,6 @@ bounds-heads-h-in-loop-i c =
       c.loop-i.invariant.wide,
       c.chain_of-h.ensures.1,
     )
-
-pub loop-i-smaller : goal.loop-i-smaller
-loop-i-smaller c = omega arith
 
 pub loop-i-preserved : goal.loop-i-preserved
 loop-i-preserved c =

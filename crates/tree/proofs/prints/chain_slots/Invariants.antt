@@ -4,6 +4,3 @@ use Rattle.tree.proofs.prints.chain_slots.Given as goal
 
 abbrev pub invariant-loop-i : goal.invariant-loop-i
 invariant-loop-i l = Linking l.prints l.n l.initial.heads l.initial.links l.heads l.links l.i
-
-abbrev pub decreases-loop-i : goal.decreases-loop-i
-decreases-loop-i l = l.i

@@ -3,39 +3,27 @@ use Rattle.tree.proofs.Rows.{slot-inside}
 use native.Mathlib.Omega.{arith}
 use Rattle.tree.proofs.prints.fill_prints.Goals as goal
 
-pub slot_count-n-requires : goal.slot_count-n-requires
-slot_count-n-requires c = c.requires.0.directory
-
 pub loop-i-init : goal.loop-i-init
 loop-i-init c = filling_start _ _ _
 
 pub slot_print-requires : goal.slot_print-requires
-slot_print-requires c = (c.requires.0, omega (arith, c.slot_count-n.ensures))
-
-pub overflow_cast-prints : goal.overflow_cast-prints
-overflow_cast-prints c = omega (arith, c.slot_print.ensures.1)
+slot_print-requires c = (c.requires.0, omega (arith, c.slot_count-i-end.ensures))
 
 pub offset_bounds-prints-i : goal.offset_bounds-prints-i
 offset_bounds-prints-i c =
     omega (
       arith,
       slot-inside c.requires.0.directory c.loop-i.i
-          (omega (arith, c.slot_count-n.ensures)),
+          (omega (arith, c.slot_count-i-end.ensures)),
     )
 
 pub bounds-prints-i : goal.bounds-prints-i
-bounds-prints-i c = omega (arith, c.loop-i.invariant.long, c.requires.1, c.slot_count-n.ensures)
-
-pub overflow_add-i : goal.overflow_add-i
-overflow_add-i c = omega arith
-
-pub loop-i-smaller : goal.loop-i-smaller
-loop-i-smaller c = omega arith
+bounds-prints-i c = omega (arith, c.loop-i.invariant.long, c.requires.1, c.slot_count-i-end.ensures)
 
 pub loop-i-preserved : goal.loop-i-preserved
 loop-i-preserved c =
-    filling_on c.loop-i.invariant (omega (arith, c.requires.1, c.slot_count-n.ensures)) _
-    c.slot_print.ensures.0
+    filling_on c.loop-i.invariant (omega (arith, c.requires.1, c.slot_count-i-end.ensures)) _
+    c.slot_print.ensures
 
 pub shape_of-prints : goal.shape_of-prints
 shape_of-prints c = c.loop-i.invariant.long
@@ -45,5 +33,5 @@ returns c =
     record {
       long = omega (arith, c.loop-i.invariant.long, c.requires.1);
       each = λ k h. c.loop-i.invariant.each k
-          (omega (arith, c.slot_count-n.ensures));
+          (omega (arith, c.slot_count-i-end.ensures));
     }

@@ -1,10 +1,6 @@
 -- fill_prints: slot after slot.
-use Prim.Native.Nat.{◌-◌}
 use Rattle.tree.proofs.Printing.{Filling}
 use Rattle.tree.proofs.prints.fill_prints.Given as goal
 
 abbrev pub invariant-loop-i : goal.invariant-loop-i
 invariant-loop-i l = Filling l.image l.r.0 l.initial.prints l.prints l.i
-
-abbrev pub decreases-loop-i : goal.decreases-loop-i
-decreases-loop-i l = l.n - l.i

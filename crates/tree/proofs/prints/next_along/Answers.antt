@@ -1,6 +1,7 @@
 -- next_along: by the link.
+use Prim.Native.Nat.{ℕ, ◌-◌}
 use Rattle.tree.proofs.Linking.{onward_of}
-use mathlib.Core.Path.{refl}
+use mathlib.Core.Path.{ap}
 use native.Mathlib.Omega.{arith}
 use Rattle.tree.proofs.prints.next_along.Goals as goal
 
@@ -10,11 +11,8 @@ offset_bounds-links-j c = omega (arith, c.requires.1, c.requires.2)
 pub bounds-links-j : goal.bounds-links-j
 bounds-links-j c = omega (arith, c.requires.1, c.requires.0.long)
 
-pub overflow_cast-result : goal.overflow_cast-result
-overflow_cast-result c = omega (arith, c.requires.1, c.requires.2, c.requires.0.long, (c.requires.0.each c.args.j c.requires.1).short)
-
 pub overflow_sub-result : goal.overflow_sub-result
-overflow_sub-result c = omega (arith, c.requires.1, c.requires.2, c.requires.0.long, (c.requires.0.each c.args.j c.requires.1).short)
+overflow_sub-result c = omega (arith, c.from.ensures, (c.requires.0.each c.args.j c.requires.1).short)
 
 pub returns : goal.returns
-returns c = onward_of c.requires.0 c.requires.1 refl
+returns c = onward_of c.requires.0 c.requires.1 (ap (λ (d : ℕ). c.args.n - d) c.from.ensures)

@@ -4,4 +4,4 @@ use mathlib.Core.Path.{ap, ◌∙◌}
 use Rattle.tree.proofs.prints.print_at.Goals as goal
 
 pub returns : goal.returns
-returns c = (c.print_of.ensures.0 ∙ ap print_of c.body.ensures, c.print_of.ensures.1)
+returns c = c.print_of.ensures ∙ ap print_of c.body.ensures

@@ -4,36 +4,27 @@ use mathlib.Core.Path.{refl, sym, ap, ◌∙◌}
 use native.Mathlib.Omega.{arith}
 use Rattle.tree.proofs.slots.all_stand.Goals as goal
 
-pub slot_count-n-requires : goal.slot_count-n-requires
-slot_count-n-requires c = c.requires.1
-
 pub loop-i-init : goal.loop-i-init
 loop-i-init c = record { so_far = refl }
 
 pub slot_at-requires : goal.slot_at-requires
-slot_at-requires c = (c.requires.1, omega (arith, c.slot_count-n.ensures))
+slot_at-requires c = (c.requires.1, omega (arith, c.slot_count-i-end.ensures))
 
 pub stands-requires : goal.stands-requires
 stands-requires c = c.requires.0
 
 pub returns-then-not-stands : goal.returns-then-not-stands
 returns-then-not-stands c =
-    stood_out c.loop-i.invariant (omega (arith, c.slot_count-n.ensures))
+    stood_out c.loop-i.invariant (omega (arith, c.slot_count-i-end.ensures))
     (ap (slot_stands _) (sym c.slot_at.ensures) ∙ sym c.stands.ensures ∙ c.if-not-stands.true)
     ∙ ap (slots_stand _) (sym (left-start _ (directory-is c.requires.1)))
 
-pub overflow_add-i : goal.overflow_add-i
-overflow_add-i c = omega arith
-
-pub loop-i-smaller : goal.loop-i-smaller
-loop-i-smaller c = omega arith
-
 pub loop-i-preserved : goal.loop-i-preserved
 loop-i-preserved c =
-    stood_on c.loop-i.invariant (omega (arith, c.slot_count-n.ensures))
+    stood_on c.loop-i.invariant (omega (arith, c.slot_count-i-end.ensures))
     (ap (slot_stands _) (sym c.slot_at.ensures) ∙ sym c.stands.ensures ∙ c.if-not-stands.false)
 
 pub returns : goal.returns
 returns c =
-    stood_end c.loop-i.invariant (omega (arith, c.slot_count-n.ensures)) ∙ ap (slots_stand _)
+    stood_end c.loop-i.invariant (omega (arith, c.slot_count-i-end.ensures)) ∙ ap (slots_stand _)
     (sym (left-start _ (directory-is c.requires.1)))

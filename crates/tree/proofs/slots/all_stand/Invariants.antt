@@ -1,5 +1,4 @@
 -- all_stand: the slots passed stand, so the rest decides.
-use Prim.Native.Nat.{◌-◌}
 use Rattle.alloc.specs.Block.{block_of}
 use Rattle.alloc.specs.Volume.{volume_of, objects}
 use Rattle.tree.proofs.Rows.{Standing-so_far}
@@ -7,6 +6,3 @@ use Rattle.tree.proofs.slots.all_stand.Given as goal
 
 abbrev pub invariant-loop-i : goal.invariant-loop-i
 invariant-loop-i l = Standing-so_far (objects (volume_of l.image)) (block_of l.image l.r.0) l.i
-
-abbrev pub decreases-loop-i : goal.decreases-loop-i
-decreases-loop-i l = l.n - l.i

@@ -10,7 +10,7 @@ after_tiling-requires c =
     c.requires
 
 pub returns-in-Broken : goal.returns-in-Broken
-returns-in-Broken c = decides-broken c.check-tiling.ensures _ (ap breaker c.in-Broken.is)
+returns-in-Broken c = rw c.kept.ensures (decides-broken c.check-tiling.ensures _ (ap breaker c.in-Broken.is))
 
 pub returns-in-Whole : goal.returns-in-Whole
 returns-in-Whole c =

@@ -1,43 +1,42 @@
-use Rattle.alloc.proofs.Cuts.{cut_fits, cut_standing}
-use Rattle.alloc.specs.Volume.{volume_of, objects}
-use Rattle.tree.proofs.Noting.{rule_4_here}
-use Rattle.tree.proofs.Visits.{visits_start, visits_on, visits_broken, visits_end, visited_holds}
-use Rattle.tree.specs.Verdict.{keeps, rule3}
+use Rattle.alloc.proofs.Cuts.{cut_start, cut_fits}
+use Rattle.tree.proofs.Visits.{visits_start, visits_end, object_here, walks_free, walks_past, walks_broken}
+use mathlib.Core.Path.{◌∙◌, sym}
 use native.Mathlib.Omega.{arith}
 use Rattle.tree.proofs.verdict.first_breaker.Goals as goal
+use Rattle.tree.proofs.verdict.first_breaker.Goals.{else-magic_at-ne-SFFR-via-then-magic_at-ne-SFFR+else-not-keeps, else-magic_at-ne-SFFR-via-else-magic_at-ne-SFFR}
 
 pub loop-at-init : goal.loop-at-init
-loop-at-init c = rw c.start-at.ensures (visits_start _ c.requires.marked.tiled)
+loop-at-init g c = rw c.start-at.ensures (record { cut = cut_start c.requires.tiled; each = λ p k. visits_start p c.requires.tiled })
 
-pub keeps_rule-requires : goal.keeps_rule-requires
-keeps_rule-requires c =
-    let l = c.loop-at.invariant.cut in
-    record {
-      marked = c.requires.marked;
-      standing = cut_standing l (omega arith);
-      counts = λ e n. rule_4_here l (omega arith) n (c.requires.counts e) c.args.root.0;
-      slots_hold =
-          λ e n. visited_holds (keeps rule3 (objects (volume_of c.args.image.now)) c.args.root.0) l
-          (omega arith) n
-          (c.requires.slots_hold e);
-    }
+pub magic_at-requires : goal.magic_at-requires
+magic_at-requires g c = omega (arith, c.loop-at.invariant.cut, cut_fits c.loop-at.invariant.cut (omega arith))
 
-pub returns-then-not-keeps_rule : goal.returns-then-not-keeps_rule
-returns-then-not-keeps_rule c = visits_broken c.loop-at.invariant (omega arith) _ c.keeps_rule.ensures c.if-not-keeps_rule.true
+pub keeps-requires : goal.keeps-requires
+keeps-requires g c = c.requires.tested _ (object_here c.loop-at.invariant.cut (omega arith) (λ e. c.if-magic_at-ne-SFFR.true (c.magic_at.ensures ∙ e)))
+
+pub returns-then-not-keeps : goal.returns-then-not-keeps
+returns-then-not-keeps g c = walks_broken c.loop-at.r c.loop-at.invariant (omega arith) (λ e. c.if-magic_at-ne-SFFR.true (c.magic_at.ensures ∙ e)) _ c.keeps.ensures c.if-not-keeps.true
 
 pub after-r-requires : goal.after-r-requires
-after-r-requires c = omega (arith, c.loop-at.invariant.cut, cut_fits c.loop-at.invariant.cut (omega arith))
+after-r-requires g c = omega (arith, c.loop-at.invariant.cut, cut_fits c.loop-at.invariant.cut (omega arith))
 
 pub start-at-requires-in-loop-at : goal.start-at-requires-in-loop-at
-start-at-requires-in-loop-at c = omega (arith, c.loop-at.invariant.cut, cut_fits c.loop-at.invariant.cut (omega arith))
+start-at-requires-in-loop-at g c = omega (arith, c.loop-at.invariant.cut, cut_fits c.loop-at.invariant.cut (omega arith))
 
 pub loop-at-smaller : goal.loop-at-smaller
-loop-at-smaller c = omega (arith, c.loop-at.invariant.cut, cut_fits c.loop-at.invariant.cut (omega arith))
+loop-at-smaller g c = omega (arith, c.loop-at.invariant.cut, cut_fits c.loop-at.invariant.cut (omega arith))
 
 pub loop-at-preserved : goal.loop-at-preserved
-loop-at-preserved c =
-    visits_on c.loop-at.invariant (omega arith) _ c.keeps_rule.ensures c.if-not-keeps_rule.false _ _
-    c.after-r.ensures c.start-at-in-loop-at.ensures
+loop-at-preserved g c =
+    let l = c.loop-at.invariant in
+    let m = c.magic_at.ensures in
+    elim c.else-magic_at-ne-SFFR.branch [
+      | else-magic_at-ne-SFFR-via-then-magic_at-ne-SFFR+else-not-keeps w ↦
+          walks_past c.loop-at.r l (omega arith) (λ e. w.if-magic_at-ne-SFFR.true (m ∙ e)) _ w.keeps.ensures w.if-not-keeps.false _ _
+          c.after-r.ensures c.start-at-in-loop-at.ensures
+      | else-magic_at-ne-SFFR-via-else-magic_at-ne-SFFR w ↦
+          walks_free c.loop-at.r l (omega arith) (sym m ∙ w.if-magic_at-ne-SFFR.false) _ _ c.after-r.ensures c.start-at-in-loop-at.ensures
+    ]
 
 pub returns : goal.returns
-returns c = visits_end c.loop-at.invariant (omega arith)
+returns g c = λ p k. visits_end (c.loop-at.invariant.each p k) (omega arith)

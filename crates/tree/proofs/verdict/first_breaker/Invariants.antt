@@ -1,14 +1,11 @@
--- first_breaker: no object passed breaks the rule, so the rest decides.
+-- first_breaker: no object passed fails a test that the closure computes, so the rest decides.
 use Prim.Native.Nat.{◌-◌}
-use Rattle.alloc.specs.Volume.{volume_of, objects}
-use Rattle.tree.proofs.Visits.{Visits}
-use Rattle.tree.specs.Answers.{rule_of}
-use Rattle.tree.specs.Verdict.{keeps}
+use Rattle.tree.proofs.Visits.{Walks}
 use lib.ListN.{length}
 use Rattle.tree.proofs.verdict.first_breaker.Given as goal
 
 abbrev pub invariant-loop-at : goal.invariant-loop-at
-invariant-loop-at l = Visits (keeps (rule_of l.rule) (objects (volume_of l.image)) l.root.0) l.image l.r.0 l.at
+invariant-loop-at g l = Walks (goal.F-post g l.keeps) l.image l.r.0 l.at
 
 abbrev pub decreases-loop-at : goal.decreases-loop-at
-decreases-loop-at l = length l.image - l.at
+decreases-loop-at g l = length l.image - l.at

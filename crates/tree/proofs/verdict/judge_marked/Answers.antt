@@ -1,11 +1,17 @@
 -- judge_marked: the marks are cleared, or without what was counted.
+use Rattle.tree.proofs.Judging.{numbered-rule}
 use Rattle.tree.proofs.Whole.{judges_broken, judges_kept}
+use Rattle.tree.specs.Answers.{verdict_of}
+use Rattle.tree.specs.Verdict.{Verdict}
+use mathlib.Core.Path.{◌∙◌, ap, sym}
 use Rattle.tree.proofs.verdict.judge_marked.Goals as goal
 
-pub returns-then-v-ne0 : goal.returns-then-v-ne0
-returns-then-v-ne0 c = judges_broken c.decide-v.ensures c.if-v-ne0.true c.clear.ensures
+pub returns-in-Err : goal.returns-in-Err
+returns-in-Err c =
+    let e = ap verdict_of c.in-Err.is in
+    rw e at (judges_broken c.decide-v.ensures (λ z. numbered-rule _ (sym (ap (λ (v : Verdict). v.rule) e) ∙ z)) c.clear.ensures)
 
 pub returns : goal.returns
 returns c =
-    judges_kept c.decide-v.ensures c.if-v-ne0.false
-    c.units_of-n.ensures c.trim.ensures
+    let e = ap verdict_of c.in_default.is in
+    rw e at (judges_kept c.decide-v.ensures (ap (λ (v : Verdict). v.rule) e) c.units_of.ensures c.trim.ensures)

@@ -1,39 +1,55 @@
-use Rattle.tree.proofs.Judging.{hold_on, hold_start, judged_broken, judged_kept, ready_below}
-use Rattle.tree.specs.Answers.{breach_at, rule_of}
-use Rattle.tree.specs.Verdict.{rule3}
-use mathlib.Core.Path.{◌∙◌, ap, sym, refl}
-use native.Mathlib.Omega.{arith}
+-- later_broken: each rule in turn is broken, or holds for those after it.
+use Prim.Native.Nat.{◌/◌}
+use Rattle.alloc.specs.Volume.{volume_of, objects}
+use Rattle.std.proofs.Common.{rules}
+use Rattle.std.proofs.lemmas.Result.{err_from_is_err_and}
+use Rattle.tree.proofs.Judging.{hold-above, rule_in, rule_out, rule_last, numbered-rule}
+use Rattle.tree.proofs.Whole.{ready-naming, ready_slots}
+use Rattle.tree.specs.Verdict.{keeps, rule4, rule5, rule6, rule7}
+use lib.Dec.{eqb}
+use lib.ListN.{get_or}
+use mathlib.Core.Bool.{cond}
+use mathlib.Core.Path.{◌≡◌, ◌∙◌}
 use Rattle.tree.proofs.verdict.later_broken.Goals as goal
 
-pub loop-n-init : goal.loop-n-init
-loop-n-init c = (omega arith, omega arith, hold_on _ _ rule3 3 refl (hold_start _ _) c.requires.2)
+pub first_breaker-requires-3-clause-tested : goal.first_breaker-requires-3-clause-tested
+first_breaker-requires-3-clause-tested c = λ r o. let e = ready_slots c.requires o in search rules
 
-pub rule_of-requires : goal.rule_of-requires
-rule_of-requires c = omega arith
+pub returns-in_err-kept : goal.returns-in_err-kept
+returns-in_err-kept c =
+    let h4 = hold-above (objects (volume_of c.args.image.now)) c.args.root.0 c.requires.rule_3 in
+    let b4 = c.first_breaker.ensures (keeps rule4 (objects (volume_of c.args.image.now)) c.args.root.0) (λ r t o e. let f : t ≡ eqb (get_or c.args.marks.now r.0 0 / 8) (cond (eqb r.0 c.args.root.0) 0 1) = search rules in f ∙ ready-naming c.requires o) in
+    let p = err_from_is_err_and c.from_residual.result c.from_residual.ensures.1 in
+    rw (p.1, p.2) (rule_out (objects (volume_of c.args.image.now)) c.args.root.0 rule4 h4 b4 c.in_err-kept.ensures (numbered-rule _))
 
-pub first_breaker-requires : goal.first_breaker-requires
-first_breaker-requires c =
-    ready_below _ (rule_of c.rule_of.result) _ c.rule_of.ensures c.requires.0 (λ _. c.requires.1)
-    c.loop-n.invariant.2
+pub returns-in_err-kept-2 : goal.returns-in_err-kept-2
+returns-in_err-kept-2 c =
+    let h4 = hold-above (objects (volume_of c.args.image.now)) c.args.root.0 c.requires.rule_3 in
+    let b4 = c.first_breaker.ensures (keeps rule4 (objects (volume_of c.args.image.now)) c.args.root.0) (λ r t o e. let f : t ≡ eqb (get_or c.args.marks.now r.0 0 / 8) (cond (eqb r.0 c.args.root.0) 0 1) = search rules in f ∙ ready-naming c.requires o) in
+    let h5 = rule_in (objects (volume_of c.args.image.now)) c.args.root.0 rule4 h4 b4 (c.in_ok-kept.ensures) in
+    let b5 = c.first_breaker-2.ensures (keeps rule5 (objects (volume_of c.args.image.now)) c.args.root.0) (λ r t o e. search rules) in
+    let p = err_from_is_err_and c.from_residual-in_err-kept-2.result c.from_residual-in_err-kept-2.ensures.1 in
+    rw (p.1, p.2) (rule_out (objects (volume_of c.args.image.now)) c.args.root.0 rule5 h5 b5 c.in_err-kept-2.ensures (numbered-rule _))
 
-pub returns-in-At : goal.returns-in-At
-returns-in-At c =
-    judged_broken _ _ (rule_of c.rule_of.result) _ _ _ c.rule_of.ensures
-    c.loop-n.invariant.2 c.first_breaker.ensures (ap breach_at c.in-At.is)
-
-pub overflow_add-n : goal.overflow_add-n
-overflow_add-n c = omega arith
-
-pub loop-n-smaller : goal.loop-n-smaller
-loop-n-smaller c = omega arith
-
-pub loop-n-preserved : goal.loop-n-preserved
-loop-n-preserved c = (
-  omega arith,
-  omega arith,
-  hold_on _ _ (rule_of c.rule_of.result) _ c.rule_of.ensures
-      c.loop-n.invariant.2 (sym c.first_breaker.ensures ∙ ap breach_at c.in_default.is),
-)
+pub returns-in_err-kept-3 : goal.returns-in_err-kept-3
+returns-in_err-kept-3 c =
+    let h4 = hold-above (objects (volume_of c.args.image.now)) c.args.root.0 c.requires.rule_3 in
+    let b4 = c.first_breaker.ensures (keeps rule4 (objects (volume_of c.args.image.now)) c.args.root.0) (λ r t o e. let f : t ≡ eqb (get_or c.args.marks.now r.0 0 / 8) (cond (eqb r.0 c.args.root.0) 0 1) = search rules in f ∙ ready-naming c.requires o) in
+    let h5 = rule_in (objects (volume_of c.args.image.now)) c.args.root.0 rule4 h4 b4 (c.in_ok-kept.ensures) in
+    let b5 = c.first_breaker-2.ensures (keeps rule5 (objects (volume_of c.args.image.now)) c.args.root.0) (λ r t o e. search rules) in
+    let h6 = rule_in (objects (volume_of c.args.image.now)) c.args.root.0 rule5 h5 b5 (c.in_ok-kept-2.ensures) in
+    let b6 = c.first_breaker-3.ensures (keeps rule6 (objects (volume_of c.args.image.now)) c.args.root.0) (λ r t o e. search rules) in
+    let p = err_from_is_err_and c.from_residual-in_err-kept-3.result c.from_residual-in_err-kept-3.ensures.1 in
+    rw (p.1, p.2) (rule_out (objects (volume_of c.args.image.now)) c.args.root.0 rule6 h6 b6 c.in_err-kept-3.ensures (numbered-rule _))
 
 pub returns : goal.returns
-returns c = judged_kept _ _ _ (omega arith) c.loop-n.invariant.2
+returns c =
+    let h4 = hold-above (objects (volume_of c.args.image.now)) c.args.root.0 c.requires.rule_3 in
+    let b4 = c.first_breaker.ensures (keeps rule4 (objects (volume_of c.args.image.now)) c.args.root.0) (λ r t o e. let f : t ≡ eqb (get_or c.args.marks.now r.0 0 / 8) (cond (eqb r.0 c.args.root.0) 0 1) = search rules in f ∙ ready-naming c.requires o) in
+    let h5 = rule_in (objects (volume_of c.args.image.now)) c.args.root.0 rule4 h4 b4 (c.in_ok-kept.ensures) in
+    let b5 = c.first_breaker-2.ensures (keeps rule5 (objects (volume_of c.args.image.now)) c.args.root.0) (λ r t o e. search rules) in
+    let h6 = rule_in (objects (volume_of c.args.image.now)) c.args.root.0 rule5 h5 b5 (c.in_ok-kept-2.ensures) in
+    let b6 = c.first_breaker-3.ensures (keeps rule6 (objects (volume_of c.args.image.now)) c.args.root.0) (λ r t o e. search rules) in
+    let h7 = rule_in (objects (volume_of c.args.image.now)) c.args.root.0 rule6 h6 b6 (c.in_ok-kept-3.ensures) in
+    let b7 = c.first_breaker-4.ensures (keeps rule7 (objects (volume_of c.args.image.now)) c.args.root.0) (λ r t o e. search rules) in
+    c.kept-4.ensures ∙ rule_last (objects (volume_of c.args.image.now)) c.args.root.0 h7 b7

@@ -1,24 +1,21 @@
 use Rattle.alloc.proofs.Cuts.{cut_fits, cut_standing}
 use Rattle.alloc.proofs.Links.{links-start, links_end, links-other, links-free}
-use Rattle.alloc.specs.Volume.{volume_of, objects}
 use Rattle.storage.specs.declared.Ref.{Ref}
 use Rattle.tree.proofs.Joint.{kept_free}
-use Rattle.tree.proofs.Noting.{rule_4_here}
-use Rattle.tree.proofs.Visits.{visited_holds}
+use Rattle.tree.proofs.Visits.{object_here}
 use Rattle.tree.proofs.Whole.{walks_start, walks_on, walks_end, never_true}
-use Rattle.tree.specs.Verdict.{keeps, rule3, rule4}
 use mathlib.Core.Path.{◌∙◌, sym, ap}
 use native.Mathlib.Omega.{arith}
 use Rattle.tree.proofs.verdict.none_broken.Goals as goal
 use Rattle.tree.proofs.verdict.none_broken.Goals.{then-magic_at-eq-SFFR+else-behind-next, else-magic_at-eq-SFFR+else-not-keeps_all}
 
 pub begin-next-requires : goal.begin-next-requires
-begin-next-requires c = (c.requires rule4).marked.tiled
+begin-next-requires c = c.requires.marked.tiled
 
 pub loop-at-init : goal.loop-at-init
 loop-at-init c =
     rw c.start-at.ensures
-    (walks_start _ (c.requires rule4).marked.tiled, links-start (c.requires rule4).marked.tiled c.begin-next.ensures)
+    (walks_start _ c.requires.marked.tiled, links-start c.requires.marked.tiled c.begin-next.ensures)
 
 pub magic_at-requires : goal.magic_at-requires
 magic_at-requires c = omega (arith, c.loop-at.invariant.0.cut, cut_fits c.loop-at.invariant.0.cut (omega arith))
@@ -34,18 +31,7 @@ next_of-next-requires c = (
 )
 
 pub keeps_all-requires : goal.keeps_all-requires
-keeps_all-requires c = λ n.
-    let l = c.loop-at.invariant.0.cut in
-    record {
-      marked = (c.requires n).marked;
-      standing = cut_standing l (omega arith);
-      counts = λ e z. rule_4_here l (omega arith) z ((c.requires n).counts e)
-          c.args.root.0;
-      slots_hold =
-          λ e z. visited_holds (keeps rule3 (objects (volume_of c.args.image.now))
-          c.args.root.0) l (omega arith) z ((c.requires
-          n).slots_hold e);
-    }
+keeps_all-requires c = (c.requires, object_here c.loop-at.invariant.0.cut (omega arith) (λ e. c.if-magic_at-eq-SFFR.false (c.magic_at.ensures ∙ e)))
 
 pub returns-then-not-keeps_all : goal.returns-then-not-keeps_all
 returns-then-not-keeps_all c = λ e. never_true e

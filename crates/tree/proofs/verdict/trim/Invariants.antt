@@ -1,10 +1,7 @@
--- trim: mark after mark.
-use Prim.Native.Nat.{◌-◌}
-use Rattle.tree.proofs.Noting.{Trims}
+-- trim: the marks passed are trimmed.
+use Rattle.std.proofs.Common.{◌≡◌, ◌++◌, take, drop}
+use Rattle.tree.specs.Marks.{trimmed}
 use Rattle.tree.proofs.verdict.trim.Given as goal
 
-abbrev pub invariant-loop-i : goal.invariant-loop-i
-invariant-loop-i l = Trims l.initial.marks l.marks l.n l.i
-
-abbrev pub decreases-loop-i : goal.decreases-loop-i
-decreases-loop-i l = l.n - l.i
+abbrev pub invariant-loop-mark : goal.invariant-loop-mark
+invariant-loop-mark l = l.mark-items ≡ trimmed (take l.mark-index l.initial.mark-items) ++ drop l.mark-index l.initial.mark-items
