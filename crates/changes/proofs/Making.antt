@@ -31,8 +31,8 @@ use Rattle.alloc.proofs.Stages.{PairIn, stage_pair, stage_start, stage_unpaired}
 use Rattle.tree.specs.Fields.{total}
 use Rattle.tree.proofs.Formed.{dir_there, formed_dir, formed-sound}
 use Rattle.calls.specs.declared.refusal.Reason.TheVariants.{Exists, NoRoom, NoSlot}
-use Rattle.calls.specs.declared.refusal.Refusal.{Refusal}
-use Rattle.calls.specs.declared.refusal.Refusal.TheVariants.{Accepted, For}
+use Rattle.calls.specs.Refusal.{Refusal}
+use Rattle.calls.specs.Refusal.{Accepted, For}
 use Rattle.calls.specs.Reading.{block_in}
 use Rattle.calls.specs.Walk.{Start, empty_slot, last_name, reached, refused, slot_named, start_above}
 use Rattle.changes.specs.Answers.{Makes, Named, Vacant, magic_for, parent_field, size_for}

@@ -23,8 +23,8 @@ use Rattle.alloc.proofs.Stages.{PlacedIn, stage_holds, stage_image, stage_size, 
 use Rattle.tree.specs.Fields.{file_size, is_file, room}
 use Rattle.tree.proofs.Formed.{file-there, formed-file, formed-sound}
 use Rattle.calls.specs.declared.refusal.Reason.TheVariants.{IsDirectory, PastRoom}
-use Rattle.calls.specs.declared.refusal.Refusal.{Refusal}
-use Rattle.calls.specs.declared.refusal.Refusal.TheVariants.{Accepted, For}
+use Rattle.calls.specs.Refusal.{Refusal}
+use Rattle.calls.specs.Refusal.{Accepted, For}
 use Rattle.calls.specs.Answers.{FileIn}
 use Rattle.calls.specs.Reading.{block_in}
 use Rattle.calls.specs.Walk.{Start, reached, refused, start}

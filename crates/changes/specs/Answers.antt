@@ -3,7 +3,7 @@ use Rattle.std.specs.Prelude.{ℕ, ◌+◌, ◌*◌, ◌≤◌, ◌<◌, List, [
 use Rattle.storage.specs.Bytes.{be64}
 use Rattle.alloc.specs.Block.{SFde, SFre}
 use Rattle.tree.specs.Fields.{total, slot_at, taken}
-use Rattle.calls.specs.declared.refusal.Refusal.{Refusal}
+use Rattle.calls.specs.Refusal.{Refusal}
 use Rattle.calls.specs.Reading.{block_in}
 use Rattle.calls.specs.Answers.{DirectoryIn}
 use Rattle.changes.specs.declared.make.New as declared-new

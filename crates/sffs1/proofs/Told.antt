@@ -2,7 +2,7 @@
 use Prim.Native.Nat.{ℕ}
 use mathlib.Core.List.{List}
 use mathlib.Core.Path.{◌∙◌, ◌≡◌, ap}
-use Rattle.calls.specs.declared.refusal.Refusal.{Refusal}
+use Rattle.calls.specs.Refusal.{Refusal}
 use Rattle.calls.specs.Answers.{Checks, Points, Reads}
 use Rattle.calls.specs.Reading.{Point, Read}
 use Rattle.calls.specs.Refusal.{Checked, number_of, place_of}
