@@ -9,9 +9,7 @@ use Rattle.tree.specs.Fields.{is_dir, is_file, Slot, slot_at, slots, taken}
 use Rattle.tree.specs.Verdict.{well_formed}
 use Rattle.calls.specs.declared.refusal.Reason.{Reason}
 use Rattle.calls.specs.declared.refusal.Reason.TheVariants.{BadPath, NotFound, NotDirectory, IsDirectory, OutOfBounds}
-use Rattle.calls.specs.Refusal.{Refusal}
-use Rattle.calls.specs.Refusal.{Accepted, For}
-use Rattle.calls.specs.Refusal.{accepted, check}
+use Rattle.calls.specs.Refusal.{Accepted, For, Refusal, accepted, check}
 
 -- the lowest slot of a row that passes a test, by its number
 abbrev pub onward : Option ℕ → Option ℕ
