@@ -4,7 +4,6 @@ use mathlib.Core.Bool.{Bool, cond, false, true}
 use mathlib.Core.List.{List}
 use mathlib.Core.Path.{◌∙◌, ◌≡◌, ap, refl, sym}
 use native.Mathlib.Omega.{arith}
-use lib.Dec.{eqb}
 use lib.ListN.{length}
 use borrow.Author.Tests.{eq-eqb, le-ltb, lt-ltb, ne_eqb}
 use Rattle.storage.proofs.Numbers.{AllBytes}
@@ -12,11 +11,11 @@ use Rattle.tree.specs.Marks.{Judges}
 use Rattle.tree.specs.Verdict.{BlockRule, Verdict, rule3, rule4, rule5, rule6, rule7, verdict, well_formed}
 use Rattle.tree.specs.WellFormed.{Judged, breaks, breaks_1, breaks_2, breaks_8, number, is_well_formed}
 use Rattle.tree.proofs.Verdicts.{judged}
-use Rattle.calls.specs.declared.refusal.Refusal.{Refusal}
-use Rattle.calls.specs.declared.refusal.Refusal.TheVariants.{Accepted, For}
+use Rattle.calls.specs.declared.refusal.Refusal as declared-refusal
+use Rattle.calls.specs.declared.refusal.Refusal.TheVariants as told
 use Rattle.calls.specs.declared.refusal.Reason.TheVariants.{TooFewMarks}
-use Rattle.calls.specs.Answers.{Checks}
-use Rattle.calls.specs.Refusal.{accepted, broken, check, check_marked, number_of, refusal_of}
+use Rattle.calls.specs.Answers.{Checks, refused_as}
+use Rattle.calls.specs.Refusal.{Accepted, For, Refusal, accepted, broken, check, check_marked, refusal_of}
 
 -- there are eight rules
 pub judged_low : {s : List ℕ} {v : Verdict} → Judged s v → v.rule ≤ 8
@@ -40,6 +39,11 @@ refusal_none v z = sym (ap (λ (t : Bool). cond t Accepted (broken v)) (eq-eqb v
 pub refusal-broken : (v : Verdict) → (v.rule ≡ 0 → ⊥) → broken v ≡ refusal_of v
 refusal-broken v z = sym (ap (λ (t : Bool). cond t Accepted (broken v)) (ne_eqb v.rule 0 z))
 
+-- a refusal is not accepted
+pub never_accepted : (r : declared-refusal.Refusal) → refused_as r ≡ Accepted → ⊥
+never_accepted (told.Broken n q) e = cc
+never_accepted (told.For w) e = cc
+
 module _ (s : List ℕ) where
   pub rule-low : AllBytes s → {v : Verdict} → v ≡ verdict s → v.rule ≤ 8
   rule-low h e = omega (arith, judged_low (judged s h), ap (λ (x : Verdict). x.rule) e)
@@ -48,20 +52,22 @@ module _ (s : List ℕ) where
   unfolding check
   check-is e f = f ∙ ap refusal_of e
 
-  -- by the number of what check answers
-  checked : (n : ℕ) → n ≡ number_of (check s) → (t : Bool) → eqb n 0 ≡ t → well_formed s ≡ t
+  -- by what check answers
+  pub checked_formed : Accepted ≡ check s → well_formed s ≡ true
   unfolding check well_formed
-  checked n e t f = go (well_formed s) refl e
+  checked_formed e = go (well_formed s) refl e
     where
-      go : (q : Bool) → well_formed s ≡ q → n ≡ number_of (cond q Accepted (broken (verdict s))) → well_formed s ≡ t
-      go true h e = h ∙ sym (eq-eqb n 0 e) ∙ f
-      go false h e = h ∙ sym (ne_eqb n 0 (λ z. omega arith)) ∙ f
+      go : (q : Bool) → well_formed s ≡ q → Accepted ≡ cond q Accepted (broken (verdict s)) → well_formed s ≡ true
+      go true h e = h
+      go false h e = cc
 
-  pub checked_formed : {r : Refusal} {n : ℕ} → r ≡ check s → n ≡ number_of r → n ≡ 0 → well_formed s ≡ true
-  checked_formed {r} {n} e f z = checked n (f ∙ ap number_of e) true (eq-eqb n 0 z)
-
-  pub checked_broken : {r : Refusal} {n : ℕ} → r ≡ check s → n ≡ number_of r → (n ≡ 0 → ⊥) → well_formed s ≡ false
-  checked_broken {r} {n} e f z = checked n (f ∙ ap number_of e) false (ne_eqb n 0 z)
+  pub checked_broken : (r : declared-refusal.Refusal) → refused_as r ≡ check s → well_formed s ≡ false
+  unfolding check well_formed
+  checked_broken r e = go (well_formed s) refl e
+    where
+      go : (q : Bool) → well_formed s ≡ q → refused_as r ≡ cond q Accepted (broken (verdict s)) → well_formed s ≡ false
+      go true h e = absurd (never_accepted r e)
+      go false h e = h
 
   pub check-refused : well_formed s ≡ false → accepted (check s) ≡ false
   unfolding check well_formed

@@ -20,7 +20,7 @@ use Rattle.tree.proofs.Formed.{formed-file}
 use Rattle.tree.proofs.Tests.{file_data_size}
 use Rattle.calls.specs.Reading.{block_in, kind_of, Point, no_point, point_of, file, directory}
 use Rattle.calls.specs.declared.refusal.Reason.TheVariants.{PastEnd}
-use Rattle.calls.specs.declared.refusal.Refusal.TheVariants.{Accepted, For}
+use Rattle.calls.specs.Refusal.{Accepted, For}
 use Rattle.calls.specs.Answers.{DirectoryIn, FileIn, Copies, Points}
 use Rattle.calls.proofs.Stands.{directory-stands, file-stands}
 

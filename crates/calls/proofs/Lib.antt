@@ -1,3 +1,4 @@
+pub mod Told
 pub mod Stands
 pub mod Lowest
 pub mod Checking

@@ -77,7 +77,10 @@ module _ {s : List ℕ} (h : AllBytes s) where
   pub root-object : well_formed s ≡ true → ObjectAt s (volume_of s).root
   root-object e = record { formed = e; kind = either_kind (block_in s (volume_of s).root) (inr (formed-root s h e)) }
 
-  -- the slots of a directory, as they are read
+  -- the slots of a directory, as they are counted and read
+  pub slots-counted : {r : ℕ} → DirectoryIn s r → {n : ℕ} → n ≡ total (block_of s r) → n ≡ total (block_in s r)
+  slots-counted d e = e ∙ ap total (directory-stands d).1
+
   module _ {r : ℕ} (d : DirectoryIn s r) (i : ℕ) where
     pub slot_read : {x : Slot} → x ≡ slot_at (block_of s r) i → x ≡ slot_at (block_in s r) i
     slot_read e = e ∙ ap (λ (b : Block). slot_at b i) (directory-stands d).1

@@ -17,17 +17,17 @@ use Rattle.path.proofs.Paths.{directory-components}
 use Rattle.alloc.specs.Block.{Block, block_of}
 use Rattle.alloc.specs.Sound.{Standing}
 use Rattle.alloc.specs.Volume.{Objects, block_at, objects, volume_of}
-use Rattle.tree.specs.Fields.{Slot, is_dir, slot_at, taken, total}
+use Rattle.tree.specs.Fields.{Slot, is_dir, is_file, slot_at, taken, total}
 use Rattle.tree.specs.Verdict.{verdict, well_formed}
 use Rattle.calls.specs.declared.refusal.Reason.{Reason}
-use Rattle.calls.specs.declared.refusal.Reason.TheVariants.{BadPath, NotDirectory, OutOfBounds}
-use Rattle.calls.specs.declared.refusal.Refusal.{Refusal}
-use Rattle.calls.specs.declared.refusal.Refusal.TheVariants.{Accepted, For}
-use Rattle.calls.specs.Answers.{DirectoryIn, ObjectAt, named, start_refusal, walk_refusal}
+use Rattle.calls.specs.declared.refusal.Reason.TheVariants.{BadPath, IsDirectory, NotDirectory, OutOfBounds}
+use Rattle.calls.specs.declared.refusal.Refusal as declared-refusal
+use Rattle.calls.specs.Answers.{DirectoryIn, FileIn, ObjectAt, named, refused_as}
 use Rattle.calls.specs.Reading.{block_in}
-use Rattle.calls.specs.Refusal.{accepted, broken, check, number_of}
-use Rattle.calls.specs.Walk.{Start, Walk, above_last, as_directory, at, blocked, child, last_name, missing, opening}
+use Rattle.calls.specs.Refusal.{Accepted, For, Refusal, accepted, broken, check, number_of}
+use Rattle.calls.specs.Walk.{Start, Walk, above_last, as_directory, as_file, at, blocked, child, last_name, missing, opening}
 use Rattle.calls.specs.Walk.{or_refused, reached, refused, slot_named, start, start_above, step, walk, walk_from, walked}
+use Rattle.calls.proofs.Checking.{check-refused, never_accepted}
 use Rattle.calls.proofs.Lowest.{found-slot}
 use Rattle.calls.proofs.Stands.{root-object, slot-name-stands, slot-object, slot_read}
 
@@ -83,6 +83,12 @@ step-object {s} h r e w q f = go (is_dir (block_in s r)) refl f
 
 -- ---- the loop along the components
 
+-- a step that is told to reach a ref
+walked_child : (x : Walk) (q : ℕ) → reached q ≡ walked x → at q ≡ x
+walked_child missing q e = cc
+walked_child blocked q e = cc
+walked_child (at r) q e = cc
+
 pub record Walking (s : List ℕ) (ws : List (List ℕ)) (r i : ℕ) : Type 0 where
   pub object : ObjectAt s r
   pub so_far : walk (objects (volume_of s)) (volume_of s).root ws ≡ walk (objects (volume_of s)) r (drop i ws)
@@ -107,15 +113,20 @@ module _ {s : List ℕ} {ws : List (List ℕ)} {r i : ℕ} (k : Walking s ws r i
         (ap (step (objects (volume_of s)) r) (sym e) ∙ sym f)
         ∙ ap (λ (n : ℕ). elim x as (λ _. Walk) [ missing ↦ missing | blocked ↦ blocked | at q ↦ walk (objects (volume_of s)) q (drop n ws) ]) (sym (add-one i))
 
-  pub walking_on : AllBytes s → i < length ws → {w : List ℕ} → w ≡ get_or ws i [] → (q : ℕ) → at q ≡ step (objects (volume_of s)) r w → Walking s ws q (i + 1)
-  walking_on h l {w} e q f = record { object = step-object h r k.object.formed w q f; so_far = stepped l e (at q) f }
+  -- a step to a child, or to none
+  pub walking_on : AllBytes s → i < length ws → {w : List ℕ} → w ≡ get_or ws i [] → (q : ℕ) → reached q ≡ walked (step (objects (volume_of s)) r w) → Walking s ws q (i + 1)
+  walking_on h l {w} e q f =
+      let g = walked_child _ q f in
+      record { object = step-object h r k.object.formed w q g; so_far = stepped l e (at q) g }
 
-  -- a step that has no child
-  pub walking_out : i < length ws → {w : List ℕ} → w ≡ get_or ws i [] → (x : Walk) → x ≡ step (objects (volume_of s)) r w → (n : Refusal) → n ≡ walk_refusal x
-      → ((q : ℕ) → x ≡ at q → ⊥) → refused n ≡ walked (walk (objects (volume_of s)) (volume_of s).root ws)
-  walking_out l e missing f n g m = ap refused g ∙ sym (ap walked (stepped l e missing f))
-  walking_out l e blocked f n g m = ap refused g ∙ sym (ap walked (stepped l e blocked f))
-  walking_out l e (at q) f n g m = absurd (m q refl)
+  pub walking_out : i < length ws → {w : List ℕ} → w ≡ get_or ws i [] → (n : Refusal) → refused n ≡ walked (step (objects (volume_of s)) r w)
+      → refused n ≡ walked (walk (objects (volume_of s)) (volume_of s).root ws)
+  walking_out l {w} e n f = go (step (objects (volume_of s)) r w) refl f
+    where
+      go : (x : Walk) → x ≡ step (objects (volume_of s)) r w → refused n ≡ walked x → refused n ≡ walked (walk (objects (volume_of s)) (volume_of s).root ws)
+      go missing f g = g ∙ sym (ap walked (stepped l e missing f))
+      go blocked f g = g ∙ sym (ap walked (stepped l e blocked f))
+      go (at q) f g = cc
 
 -- ---- how a call begins
 
@@ -151,6 +162,18 @@ module _ (s path : List ℕ) (allowed : Bool) where
       go true false c x y z e = absurd (omega arith)
       go false b c x y z e = absurd (omega arith)
 
+  -- what is looked for first, told as a refusal
+  pub not_opened : (r : declared-refusal.Refusal) → refused_as r ≡ opening s path allowed → accepted (opening s path allowed) ≡ false
+  unfolding opening check well_formed verdict
+  not_opened r e = go (well_formed s) (valid_path path) allowed refl e
+    where
+      go : (a b c : Bool) → well_formed s ≡ a → refused_as r ≡ cond a (cond b (cond c Accepted (For OutOfBounds)) (For BadPath)) (check s)
+          → accepted (cond a (cond b (cond c Accepted (For OutOfBounds)) (For BadPath)) (check s)) ≡ false
+      go true true true x e = absurd (never_accepted r e)
+      go true true false x e = refl
+      go true false c x e = refl
+      go false b c x e = check-refused s x
+
 -- r is what was looked for first, and n its number
 module _ {r : Refusal} (m : Refusal) (x : Start) (e : r ≡ m) {n : ℕ} (f : n ≡ number_of r) where
   pub or_refused_lem : (n ≡ 0 → ⊥) → refused r ≡ or_refused m x
@@ -183,19 +206,24 @@ walked-object {s} h e ws r f = along ws (volume_of s).root (root-object h e) f
         by_step blocked d g k = let z : ◌≡◌ {A = ℕ} 0 1 = cc in absurd (omega arith)
         by_step (at p) d g k = k p (step-object h q e w p (sym d)) g
 
--- where what is looked for first, r with the number n, is none: the image is well formed, and a ref that a walk reaches is an object
-module _ (s path : List ℕ) (allowed : Bool) {r : Refusal} (o : r ≡ opening s path allowed) {n : ℕ} (f : n ≡ number_of r) (z : n ≡ 0) where
-  opened_so : number_of (opening s path allowed) ≡ 0
-  opened_so = ap number_of (sym o) ∙ sym f ∙ z
-
+-- where what is looked for first is none: the image is well formed, and a ref that a walk reaches is an object
+module _ (s path : List ℕ) (allowed : Bool) (o : Accepted ≡ opening s path allowed) where
   pub opened_formed : well_formed s ≡ true
-  opened_formed = (opened s path allowed opened_so).0
+  opened_formed = (opened s path allowed (ap number_of (sym o))).0
 
   pub opened_valid : valid_path path ≡ true
-  opened_valid = (opened s path allowed opened_so).1
+  opened_valid = (opened s path allowed (ap number_of (sym o))).1
 
   pub opened_object : AllBytes s → (ws : List (List ℕ)) (q : ℕ) → reached q ≡ walk_from s ws → ObjectAt s q
   opened_object h = walked-object h opened_formed
+
+-- by what is looked for first: a refusal, or none
+module _ (s path : List ℕ) (allowed : Bool) (x : Start) where
+  pub first-refused : (r : declared-refusal.Refusal) → refused_as r ≡ opening s path allowed → refused (refused_as r) ≡ or_refused (opening s path allowed) x
+  first-refused r e = ap refused e ∙ sym (ap (λ (t : Bool). cond t x (refused (opening s path allowed))) (not_opened s path allowed r e))
+
+  pub first-passed : Accepted ≡ opening s path allowed → x ≡ or_refused (opening s path allowed) x
+  first-passed e = ap (λ (m : Refusal). or_refused m x) e
 
 pub start-object : {s : List ℕ} → AllBytes s → (path : List ℕ) (allowed : Bool) (r : ℕ) → reached r ≡ start s path allowed → ObjectAt s r
 unfolding start
@@ -203,17 +231,50 @@ start-object {s} h path allowed r f =
     let x = reached_opened (opening s path allowed) _ r f in
     walked-object h (opened s path allowed x.0).0 (components path) r x.1
 
+-- ---- a call on a file
+
+module _ (s : List ℕ) where
+  pub file-directory : {x : Start} (r : ℕ) → reached r ≡ x → is_file (block_in s r) ≡ false → refused (For IsDirectory) ≡ as_file s x
+  file-directory r e f = sym (ap (λ (t : Bool). cond t (reached r) (refused (For IsDirectory))) f) ∙ ap (as_file s) e
+
+  pub file-reached : {x : Start} (r : ℕ) → reached r ≡ x → is_file (block_in s r) ≡ true → reached r ≡ as_file s x
+  file-reached r e f = sym (ap (λ (t : Bool). cond t (reached r) (refused (For IsDirectory))) f) ∙ ap (as_file s) e
+
+  -- what is reached was reached as a file
+  pub reached-file : (x : Start) (r : ℕ) → reached r ≡ as_file s x → (reached r ≡ x) × (is_file (block_in s r) ≡ true)
+  reached-file (refused n) r e = cc
+  reached-file (reached q) r e = go (is_file (block_in s q)) refl e
+    where
+      go : (t : Bool) → is_file (block_in s q) ≡ t → reached r ≡ cond t (reached q) (refused (For IsDirectory)) → (reached r ≡ reached q) × (is_file (block_in s r) ≡ true)
+      go true f e = let m : q ≡ r = cc in (e, subst (λ (n : ℕ). is_file (block_in s n) ≡ true) m f)
+      go false f e = cc
+
+  -- what tells a directory as a refusal may take it from here
+  pub over_file : {A : Type 0} (f : Start → A) (g : ℕ → A) → ((r : ℕ) → f (reached r) ≡ cond (is_file (block_in s r)) (g r) (f (refused (For IsDirectory))))
+      → (x : Start) → f (as_file s x) ≡ f x
+  over_file f g k (refused n) = refl
+  over_file {A} f g k (reached r) = go (is_file (block_in s r)) (k r)
+    where
+      go : (t : Bool) → f (reached r) ≡ cond t (g r) (f (refused (For IsDirectory))) → f (cond t (reached r) (refused (For IsDirectory))) ≡ f (reached r)
+      go true e = refl
+      go false e = sym e
+
+pub file-object : {s : List ℕ} → AllBytes s → (path : List ℕ) (allowed : Bool) (r : ℕ) → reached r ≡ as_file s (start s path allowed) → FileIn s r
+file-object {s} h path allowed r e =
+    let x = reached-file s _ r e in
+    record { formed = (start-object h path allowed r x.0).formed; kind = x.1 }
+
 -- ---- the directory above the last component
 
-module _ (s path : List ℕ) (allowed : Bool) (top : Reason) {b : Refusal} (o : b ≡ opening s path allowed) {n : ℕ} (f : n ≡ number_of b) where
-  pub above-first : (n ≡ 0 → ⊥) → refused b ≡ start_above s path allowed top
+module _ (s path : List ℕ) (allowed : Bool) (top : Reason) where
+  pub above-first : (r : declared-refusal.Refusal) → refused_as r ≡ opening s path allowed → refused (refused_as r) ≡ start_above s path allowed top
   unfolding start_above
-  above-first z = or_refused_lem (opening s path allowed) (above_last s top (components path)) o f z
+  above-first = first-refused s path allowed (above_last s top (components path))
 
-  module _ (z : n ≡ 0) where
+  module _ (o : Accepted ≡ opening s path allowed) where
     passed : {x : Start} → x ≡ above_last s top (components path) → x ≡ start_above s path allowed top
     unfolding start_above
-    passed e = e ∙ or_passed (opening s path allowed) (above_last s top (components path)) o f z
+    passed e = e ∙ first-passed s path allowed (above_last s top (components path)) o
 
     pub above_root : {m : ℕ} → m ≡ length (components path) → m ≡ 0 → refused (For top) ≡ start_above s path allowed top
     above_root e y = passed (go (components path) (sym e ∙ y))
@@ -227,16 +288,14 @@ module _ (s path : List ℕ) (allowed : Bool) (top : Reason) {b : Refusal} (o : 
       came : (x : Start) → x ≡ walk_from s (components p) → as_directory s x ≡ start_above s path allowed top
       came x e =
           passed (go (components path) (λ u. y (c ∙ u))
-          (e ∙ ap (λ (u : List ℕ). walk_from s (components u)) q ∙ ap (walk_from s) (directory-components path (opened_valid s path allowed o f z))))
+          (e ∙ ap (λ (u : List ℕ). walk_from s (components u)) q ∙ ap (walk_from s) (directory-components path (opened_valid s path allowed o))))
         where
           go : (ws : List (List ℕ)) → (length ws ≡ 0 → ⊥) → x ≡ walk_from s (all_but_last ws) → as_directory s x ≡ above_last s top ws
           go [] u f = absurd (u refl)
           go (w ∷ ws) u f = ap (as_directory s) f
 
-      pub above-refused : (x : Start) → x ≡ walk_from s (components p) → ((r : ℕ) → x ≡ reached r → ⊥) → {k : Refusal} → k ≡ start_refusal x
-          → refused k ≡ start_above s path allowed top
-      above-refused (refused l) e r f = ap refused f ∙ came (refused l) e
-      above-refused (reached d) e r f = absurd (r d refl)
+      pub above-refused : (n : Refusal) → refused n ≡ walk_from s (components p) → refused n ≡ start_above s path allowed top
+      above-refused n e = came (refused n) e
 
       module _ (d : ℕ) (e : reached d ≡ walk_from s (components p)) where
         pub above-file : is_dir (block_in s d) ≡ false → refused (For NotDirectory) ≡ start_above s path allowed top

@@ -1,48 +1,65 @@
 -- What the answers of this crate's functions say, and what they require.
-use Rattle.std.specs.Prelude.{ℕ, List, ◌≡◌, Bool, true, ◌&&◌, ◌||◌, length, take, drop}
+use Rattle.std.specs.Prelude.{ℕ, List, ◌≡◌, Bool, true, ◌&&◌, ◌||◌, length, take, drop, Result, Ok, Err, Some, None}
+use Rattle.std.specs.Prelude as std
 use Rattle.std.proofs.Math.Option.{Option, none, some}
-use Rattle.storage.specs.Bytes.{same}
+use Rattle.storage.specs.Bytes.{same, zeroed}
+use Rattle.storage.specs.declared.Ref.{Ref}
 use Rattle.tree.specs.Fields.{is_dir, is_file, slot_at, taken, content}
 use Rattle.tree.specs.Verdict.{well_formed}
-use Rattle.calls.specs.declared.refusal.Reason.TheVariants.{NotFound, NotDirectory}
-use Rattle.calls.specs.declared.refusal.Refusal.{Refusal}
-use Rattle.calls.specs.declared.refusal.Refusal.TheVariants.{Accepted, For}
-use Rattle.calls.specs.declared.slots.Index.{Index}
-use Rattle.calls.specs.declared.slots.Index.TheVariants.{Nowhere, At}
-use Rattle.calls.specs.declared.walk.Step.{Step}
-use Rattle.calls.specs.declared.walk.Step.TheVariants.{Child, Missing, Blocked}
-use Rattle.calls.specs.declared.walk.Start as declared-start
-use Rattle.calls.specs.declared.walk.Start.TheVariants.{Refused, Reached}
+use Rattle.calls.specs.declared.refusal.Reason.{Reason}
+use Rattle.calls.specs.declared.refusal.Refusal as declared-refusal
+use Rattle.calls.specs.declared.refusal.Refusal.TheVariants as told
 use Rattle.calls.specs.declared.reading.Kind as declared-kind
 use Rattle.calls.specs.declared.reading.Kind.TheVariants.{File, Directory}
 use Rattle.calls.specs.declared.reading.Found as declared-found
-use Rattle.calls.specs.Refusal.{Checked}
-use Rattle.calls.specs.Walk.{Walk, missing, blocked, at, Start, refused, reached}
+use Rattle.calls.specs.Refusal.{Refusal, Accepted, Broken, For, Checked}
+use Rattle.calls.specs.Walk.{Start, refused, reached}
 use Rattle.calls.specs.Reading.{Kind, file, directory, Found, Read, Point, copied, block_in}
 
--- which slot
-abbrev pub index_of : Index → Option ℕ
-index_of Nowhere = none
-index_of (At i) = some i
+-- why a call is refused
+abbrev pub refused_as : declared-refusal.Refusal → Refusal
+refused_as (told.Broken n r) = Broken n r
+refused_as (told.For w) = For w
 
--- where one step comes to
-abbrev pub step_of : Step → Walk
-step_of (Child r) = at r.0
-step_of Missing = missing
-step_of Blocked = blocked
+-- what an answer tells of its call: accepted, or why it is refused
+abbrev pub outcome_of : {T : Type 0} → Result T declared-refusal.Refusal → Refusal
+outcome_of (Ok x) = Accepted
+outcome_of (Err r) = refused_as r
+
+-- which slot
+abbrev pub index_of : std.Option ℕ → Option ℕ
+index_of None = none
+index_of (Some i) = some i
+
+-- where one step comes to: the object, or why there is none
+abbrev pub step_of : Result Ref Reason → Start
+step_of (Ok r) = reached r.0
+step_of (Err w) = refused (For w)
 
 -- how a call begins
-abbrev pub start_of : declared-start.Start → Start
-start_of (Refused r) = refused r
-start_of (Reached r) = reached r.0
+abbrev pub start_of : Result Ref declared-refusal.Refusal → Start
+start_of (Ok r) = reached r.0
+start_of (Err r) = refused (refused_as r)
 
 -- find's kind: a file with size and room, or a directory with taken and total slots
 abbrev pub kind_is : declared-kind.Kind → Kind
 kind_is (File size room) = file size room
 kind_is (Directory taken total) = directory taken total
 
-abbrev pub found_of : declared-found.Found → Found
-found_of f = record { refusal = f.refusal; at = f.at.0; kind = kind_is f.kind }
+-- what find tells: on a refusal all else is zero
+abbrev pub found_of : Result declared-found.Found declared-refusal.Refusal → Found
+found_of (Ok f) = record { refusal = Accepted; at = f.at.0; kind = kind_is f.kind }
+found_of (Err r) = record { refusal = refused_as r; at = 0; kind = file 0 0 }
+
+-- how many bytes a read tells: none on a refusal
+abbrev pub count_of : Result ℕ declared-refusal.Refusal → ℕ
+count_of (Ok n) = n
+count_of (Err r) = 0
+
+-- the bytes of a point: zeros on a refusal
+abbrev pub point_bytes_of : Result (List ℕ) declared-refusal.Refusal → List ℕ
+point_bytes_of (Ok bytes) = bytes
+point_bytes_of (Err r) = zeroed 16
 
 -- a file or directory of a well-formed image, at ref r
 pub record ObjectAt (s : List ℕ) (r : ℕ) : Type 0 where
@@ -62,17 +79,6 @@ pub record FileIn (s : List ℕ) (r : ℕ) : Type 0 where
 -- slot i of the directory at ref r is taken, with this name
 abbrev pub named : List ℕ → ℕ → ℕ → List ℕ → Bool
 named s r i w = taken (slot_at (block_in s r) i) && same (block_in s (slot_at (block_in s r) i).0).body w
-
--- the refusal of a walk that reaches nothing
-abbrev pub walk_refusal : Walk → Refusal
-walk_refusal missing = For NotFound
-walk_refusal blocked = For NotDirectory
-walk_refusal (at r) = Accepted
-
--- and of a call that is refused as it begins
-abbrev pub start_refusal : Start → Refusal
-start_refusal (refused r) = r
-start_refusal (reached r) = Accepted
 
 -- a read's answer, and the buffer then
 pub record Reads (a : Read) (refusal : Refusal) (count : ℕ) (buffer : List ℕ) : Type 0 where

@@ -6,8 +6,7 @@ use Rattle.alloc.specs.Tiling.{within}
 use Rattle.alloc.specs.Volume.{volume_of, objects, block_at}
 use Rattle.tree.specs.Fields.{is_dir, is_file, slots, total, taken_count, file_size, room, content}
 use Rattle.calls.specs.declared.refusal.Reason.TheVariants.{IsDirectory, PastEnd}
-use Rattle.calls.specs.declared.refusal.Refusal.{Refusal}
-use Rattle.calls.specs.declared.refusal.Refusal.TheVariants.{Accepted, For}
+use Rattle.calls.specs.Refusal.{Accepted, For, Refusal}
 use Rattle.calls.specs.Walk.{Start, refused, reached, start}
 
 -- the block at a ref of the image

@@ -1,12 +1,17 @@
 -- Refusals, document 01's numbers for them, and the place of document 02's #101.
 use Rattle.std.specs.Prelude.{ℕ, ◌+◌, ◌/◌, List, Bool, cond, eqb, ltb, length}
 use Rattle.storage.specs.Bytes.{splice}
+use Rattle.storage.specs.declared.Ref.{Ref}
 use Rattle.tree.specs.Verdict.{Verdict, verdict, marks_after}
 use Rattle.calls.specs.declared.refusal.Reason.{Reason}
 use Rattle.calls.specs.declared.refusal.Reason.TheVariants.{BadLength, BadPath, NotFound, NotDirectory, IsDirectory, Exists, NoSlot}
 use Rattle.calls.specs.declared.refusal.Reason.TheVariants.{NoRoom, NotEmpty, OutOfBounds, IsRoot, PastRoom, PastEnd, TooFewLines, TooFewMarks}
-use Rattle.calls.specs.declared.refusal.Refusal.{Refusal}
-use Rattle.calls.specs.declared.refusal.Refusal.TheVariants.{Accepted, Broken, For}
+
+-- a call is accepted, or the image breaks a rule (the number, 21 to 28, and the first block that breaks it), or it is refused for another reason
+pub data Refusal : Type 0 where
+  Accepted : Refusal
+  Broken : ℕ → Ref → Refusal
+  For : Reason → Refusal
 
 -- the numbers that the controller shows
 abbrev pub reason_number : Reason → ℕ

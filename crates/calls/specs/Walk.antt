@@ -5,13 +5,11 @@ use Rattle.storage.specs.Bytes.{same}
 use Rattle.alloc.specs.Block.{Block}
 use Rattle.alloc.specs.Volume.{Objects, volume_of, objects, block_at}
 use Rattle.path.specs.Path.{valid_path, components, all_but_last}
-use Rattle.tree.specs.Fields.{is_dir, Slot, slot_at, slots, taken}
+use Rattle.tree.specs.Fields.{is_dir, is_file, Slot, slot_at, slots, taken}
 use Rattle.tree.specs.Verdict.{well_formed}
 use Rattle.calls.specs.declared.refusal.Reason.{Reason}
-use Rattle.calls.specs.declared.refusal.Reason.TheVariants.{BadPath, NotFound, NotDirectory, OutOfBounds}
-use Rattle.calls.specs.declared.refusal.Refusal.{Refusal}
-use Rattle.calls.specs.declared.refusal.Refusal.TheVariants.{Accepted, For}
-use Rattle.calls.specs.Refusal.{accepted, check}
+use Rattle.calls.specs.declared.refusal.Reason.TheVariants.{BadPath, NotFound, NotDirectory, IsDirectory, OutOfBounds}
+use Rattle.calls.specs.Refusal.{Accepted, For, Refusal, accepted, check}
 
 -- the lowest slot of a row that passes a test, by its number
 abbrev pub onward : Option ℕ → Option ℕ
@@ -88,6 +86,11 @@ above_last s top (w ∷ ws) = as_directory s (walk_from s (all_but_last (w ∷ w
 
 unfoldable pub start_above : List ℕ → List ℕ → Bool → Reason → Start
 start_above s path allowed top = or_refused (opening s path allowed) (above_last s top (components path))
+
+-- a call on a file: a directory is refused
+abbrev pub as_file : List ℕ → Start → Start
+as_file s (refused r) = refused r
+as_file s (reached r) = cond (is_file (block_at (objects (volume_of s)) r)) (reached r) (refused (For IsDirectory))
 
 -- the last component
 unfoldable pub last_name : List ℕ → List ℕ

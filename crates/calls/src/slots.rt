@@ -11,13 +11,6 @@ use alloc::access;
 use storage::Ref;
 use tree::fields;
 
-// Whether there is such a slot, and which.
-#[derive(Clone, Copy)]
-pub enum Index {
-    Nowhere,
-    At(usize),
-}
-
 // Whether slot `i` of the directory at `d` is taken, with this name.
 fn has_name(image: &[u8], d: Ref, i: usize, name: &[u8]) -> bool
     requires { DirectoryIn image.now d.0 × (i < total (block_in image.now d.0)) }
@@ -33,35 +26,31 @@ fn has_name(image: &[u8], d: Ref, i: usize, name: &[u8]) -> bool
 }
 
 // The slot of the directory at `d` with this name.
-pub fn with_name(image: &[u8], d: Ref, name: &[u8]) -> Index
+pub fn with_name(image: &[u8], d: Ref, name: &[u8]) -> Option<usize>
     requires { DirectoryIn image.now d.0 }
     ensures { index_of result ≡ slot_named (objects (volume_of image.now)) (block_in image.now d.0) name.now }
 {
-    let n = fields::slot_count(image, d);
-    let mut i = 0;
-    while i < n {
+    let count = fields::slot_count(image, d);
+    for i in 0..count {
         if has_name(image, d, i, name) {
-            return Index::At(i);
+            return Some(i);
         }
-        i += 1;
     }
-    Index::Nowhere
+    None
 }
 
 // The lowest empty slot of the directory at `d`.
-pub fn empty(image: &[u8], d: Ref) -> Index
+pub fn empty(image: &[u8], d: Ref) -> Option<usize>
     requires { DirectoryIn image.now d.0 }
     ensures { index_of result ≡ empty_slot (block_in image.now d.0) }
 {
     let n = fields::slot_count(image, d);
-    let mut i: usize = 0;
-    while i < n {
+    for i in 0..n {
         let s = fields::slot_at(image, d, i);
         let object = s.object;
         if object.0 == 0 {
-            return Index::At(i);
+            return Some(i);
         }
-        i += 1;
     }
-    Index::Nowhere
+    None
 }

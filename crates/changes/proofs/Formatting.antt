@@ -29,7 +29,7 @@ use Rattle.alloc.proofs.Releasing.{length-zeroed}
 use Rattle.alloc.proofs.Soundness.{image-sound, image-volume}
 use Rattle.alloc.proofs.Stages.{PlacedIn, stage_placed, stage_start, stage_unplaced}
 use Rattle.calls.specs.declared.refusal.Reason.TheVariants.{BadLength, NoRoom, OutOfBounds}
-use Rattle.calls.specs.declared.refusal.Refusal.TheVariants.{Accepted, For}
+use Rattle.calls.specs.Refusal.{Accepted, For}
 use Rattle.changes.specs.Answers.{Changes}
 use Rattle.changes.specs.Changing.{format, formatted, new_directory, with_root}
 use Rattle.changes.proofs.Storing.{Open, answered, open_image, open_placed, store, store_at}

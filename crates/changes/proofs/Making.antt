@@ -1,9 +1,11 @@
 -- Making: new blocks, and a slot filled.
 use Prim.Native.Nat.{◌*◌, ◌+◌, ◌-◌, ◌<◌, ◌≤◌, suc, zero, ℕ}
-use mathlib.Core.Bool.{Bool, true}
+use mathlib.Core.Bool.{Bool, false, true}
 use mathlib.Core.List.{List, [], ◌++◌, append-nil}
 use mathlib.Core.Option.{Option, none, some}
 use mathlib.Core.Path.{◌∙◌, ◌≡◌, ap, refl, subst, sym}
+use Rattle.std.specs.Prelude as std
+use Rattle.std.specs.Prelude.{None, Some, is_some}
 use native.Mathlib.Nat.{add-zero, zero-add}
 use native.Mathlib.Omega.{arith}
 use lib.Dec.{leb}
@@ -31,8 +33,8 @@ use Rattle.alloc.proofs.Stages.{PairIn, stage_pair, stage_start, stage_unpaired}
 use Rattle.tree.specs.Fields.{total}
 use Rattle.tree.proofs.Formed.{dir_there, formed_dir, formed-sound}
 use Rattle.calls.specs.declared.refusal.Reason.TheVariants.{Exists, NoRoom, NoSlot}
-use Rattle.calls.specs.declared.refusal.Refusal.{Refusal}
-use Rattle.calls.specs.declared.refusal.Refusal.TheVariants.{Accepted, For}
+use Rattle.calls.specs.Refusal.{Accepted, For, Refusal}
+use Rattle.calls.specs.Answers.{index_of}
 use Rattle.calls.specs.Reading.{block_in}
 use Rattle.calls.specs.Walk.{Start, empty_slot, last_name, reached, refused, slot_named, start_above}
 use Rattle.changes.specs.Answers.{Makes, Named, Vacant, magic_for, parent_field, size_for}
@@ -192,6 +194,15 @@ module _ {s : List ℕ} (h : AllBytes s) {d i : ℕ} {w : List ℕ} {new : New} 
 
 -- ---- in a directory
 
+-- whether there is a slot, as the code asks it
+pub some_there : (o : std.Option ℕ) → is_some o ≡ true → {y : Option ℕ} → index_of o ≡ y → (j : ℕ) × (some j ≡ y)
+some_there (Some j) q e = (j, e)
+some_there None q e = cc
+
+pub none_there : (o : std.Option ℕ) → is_some o ≡ false → {y : Option ℕ} → index_of o ≡ y → none ≡ y
+none_there (Some j) q e = cc
+none_there None q e = e
+
 module _ (s : List ℕ) (new : New) (w : List ℕ) (d : ℕ) where
   -- the name is there
   pub make-there : {j : ℕ} → some j ≡ slot_named (objects (volume_of s)) (block_in s d) w → Makes (make_in s new w d) (For Exists) 0 s
@@ -216,8 +227,8 @@ module _ (s path : List ℕ) (new : New) where
   made x e n o t m = subst (λ (y : Start). Makes (make_at s new (last_name path) y) n o t) e m
 
   module _ {a : Bool} (b : a ≡ allowed new) where
-    pub make-refused : (n : Refusal) → refused n ≡ start_above s path a Exists → (k : Refusal) (o : ℕ) → k ≡ n → o ≡ 0 → Makes (make s path new) k o s
-    make-refused n e k o f g = made (refused n) (e ∙ ap (λ (t : Bool). start_above s path t Exists) b) k o s (record { refusal_is = f; at-is = g; image-is = refl })
+    pub make-refused : (n : Refusal) → refused n ≡ start_above s path a Exists → Makes (make s path new) n 0 s
+    make-refused n e = made (refused n) (e ∙ ap (λ (t : Bool). start_above s path t Exists) b) n 0 s (record { refusal_is = refl; at-is = refl; image-is = refl })
 
     pub make-reached : (d : ℕ) → reached d ≡ start_above s path a Exists → (w : List ℕ) → w ≡ last_name path → (n : Refusal) (o : ℕ) (t : List ℕ)
         → Makes (make_in s new w d) n o t → Makes (make s path new) n o t
@@ -250,9 +261,6 @@ pair_told {s} {t} {k} {m} {n} {m'} {n'} {o} {o'} e f g p =
 
 pub object-told : {m n m' n' : ℕ} → m ≡ m' → n ≡ n' → Object m' n' → Object m n
 object-told {m} {n} {m'} {n'} e f o = subst (λ (x : ℕ). Object x n) (sym e) (subst (λ (x : ℕ). Object m' x) (sym f) o)
-
-pub unmade-told : {m : Made} {t : List ℕ} {k n : Refusal} {o : ℕ} → n ≡ k → o ≡ 0 → Makes m k 0 t → Makes m n o t
-unmade-told e f w = record { refusal_is = e ∙ w.refusal_is; at-is = f ∙ w.at-is; image-is = w.image-is }
 
 pub file-allowed : (n : ℕ) → leb n 65536 ≡ allowed (file n)
 file-allowed n = sym (rw (le-leb 0 n (omega arith)))

@@ -19,9 +19,8 @@ use Rattle.alloc.proofs.Fitting.{pair_exact}
 use Rattle.tree.specs.Fields.{is_dir}
 use Rattle.tree.specs.Verdict.{verdict, well_formed}
 use Rattle.calls.specs.declared.refusal.Reason.TheVariants.{BadPath, Exists, NoRoom, NotDirectory, OutOfBounds}
-use Rattle.calls.specs.declared.refusal.Refusal.TheVariants.{Accepted, For}
+use Rattle.calls.specs.Refusal.{Accepted, For, accepted, broken, check, number_of}
 use Rattle.calls.specs.Reading.{block_in}
-use Rattle.calls.specs.Refusal.{accepted, broken, check, number_of}
 use Rattle.calls.specs.Walk.{Start, Walk, above_last, as_directory, at, blocked, empty_slot, last_name, missing, opening, reached, refused, slot_named, start_above, walk, walked}
 use Rattle.changes.specs.Changing.{New, allowed, fill_slot, make, make_at, make_in, new_block, new_name}
 use Rattle.changes.specs.Crowded.{NoRoomFor}

@@ -25,8 +25,7 @@ use Rattle.tree.specs.Fields.{Slot, is_dir, is_file, slot_at, slots, taken, take
 use Rattle.tree.proofs.Formed.{Filled, dir_there, file-there, formed_dir, formed-sound, formed-taken, name-there}
 use Rattle.tree.proofs.Indexed.{slots-other}
 use Rattle.calls.specs.declared.refusal.Reason.TheVariants.{IsRoot, NotEmpty, NotFound}
-use Rattle.calls.specs.declared.refusal.Refusal.{Refusal}
-use Rattle.calls.specs.declared.refusal.Refusal.TheVariants.{Accepted, For}
+use Rattle.calls.specs.Refusal.{Accepted, For, Refusal}
 use Rattle.calls.specs.Answers.{DirectoryIn}
 use Rattle.calls.specs.Reading.{block_in}
 use Rattle.calls.specs.Walk.{Start, last_name, reached, refused, slot_named, start_above}

@@ -23,12 +23,12 @@ use Rattle.alloc.proofs.Stages.{PlacedIn, stage_holds, stage_image, stage_size, 
 use Rattle.tree.specs.Fields.{file_size, is_file, room}
 use Rattle.tree.proofs.Formed.{file-there, formed-file, formed-sound}
 use Rattle.calls.specs.declared.refusal.Reason.TheVariants.{IsDirectory, PastRoom}
-use Rattle.calls.specs.declared.refusal.Refusal.{Refusal}
-use Rattle.calls.specs.declared.refusal.Refusal.TheVariants.{Accepted, For}
+use Rattle.calls.specs.Refusal.{Accepted, For, Refusal}
 use Rattle.calls.specs.Answers.{FileIn}
 use Rattle.calls.specs.Reading.{block_in}
-use Rattle.calls.specs.Walk.{Start, reached, refused, start}
+use Rattle.calls.specs.Walk.{Start, as_file, reached, refused, start}
 use Rattle.calls.proofs.Contents.{size-read}
+use Rattle.calls.proofs.Steps.{over_file, reached-file}
 use Rattle.changes.specs.Answers.{Changes}
 use Rattle.changes.specs.Changing.{Outcome, resized, set_length, set_length_at, set_length_of, stored, unchanged, with_root, write, write_at, write_to, written}
 
@@ -210,21 +210,16 @@ filed s to (refused n) = unchanged n s
 filed s to (reached r) = cond (is_file (block_in s r)) (to r) (unchanged (For IsDirectory) s)
 
 module _ (s path : List ℕ) (to : ℕ → Outcome) where
-  begun : {x : Start} → x ≡ start s path true → {n : Refusal} {t : List ℕ} → Changes (filed s to x) n t → Changes (filed s to (start s path true)) n t
-  begun e {n} {t} c = subst (λ (y : Start). Changes (filed s to y) n t) e c
+  begun : {x : Start} → x ≡ as_file s (start s path true) → {n : Refusal} {t : List ℕ} → Changes (filed s to x) n t → Changes (filed s to (start s path true)) n t
+  begun e {n} {t} = subst (λ (o : Outcome). Changes o n t) (ap (filed s to) e ∙ over_file s (filed s to) to (λ r. refl) (start s path true))
 
   -- nothing reached
-  pub file-refused : {n : Refusal} → refused n ≡ start s path true → Changes (filed s to (start s path true)) n s
-  file-refused {n} e = begun e (answered refl)
+  pub file-refused : {n : Refusal} → refused n ≡ as_file s (start s path true) → Changes (filed s to (start s path true)) n s
+  file-refused e = begun e (answered refl)
 
-  module _ {r : ℕ} (e : reached r ≡ start s path true) where
-    -- a directory
-    pub file-directory : is_file (block_in s r) ≡ false → Changes (filed s to (start s path true)) (For IsDirectory) s
-    file-directory f = begun e (passed (is_file (block_in s r)) (to r) (unchanged (For IsDirectory) s) f (answered refl))
-
-    -- a file
-    pub file-reached : is_file (block_in s r) ≡ true → {n : Refusal} {t : List ℕ} → Changes (to r) n t → Changes (filed s to (start s path true)) n t
-    file-reached f c = begun e (chosen (is_file (block_in s r)) (to r) (unchanged (For IsDirectory) s) f c)
+  -- a file
+  pub file-reached : {r : ℕ} → reached r ≡ as_file s (start s path true) → {n : Refusal} {t : List ℕ} → Changes (to r) n t → Changes (filed s to (start s path true)) n t
+  file-reached {r} e c = begun e (chosen (is_file (block_in s r)) (to r) (unchanged (For IsDirectory) s) (reached-file s _ r e).1 c)
 
 -- write and set length are such calls
 pub write-is : (s path : List ℕ) (position : ℕ) (bytes : List ℕ) {n : Refusal} {t : List ℕ} → Changes (filed s (λ r. write_to s r position bytes) (start s path true)) n t

@@ -1,9 +1,11 @@
 -- What the answers of this crate's functions say, and what they require.
-use Rattle.std.specs.Prelude.{ℕ, ◌+◌, ◌*◌, ◌≤◌, ◌<◌, List, [], ◌≡◌, true, length}
+use Rattle.std.specs.Prelude.{ℕ, ◌+◌, ◌*◌, ◌≤◌, ◌<◌, List, [], ◌≡◌, true, length, Result, Ok, Err}
 use Rattle.storage.specs.Bytes.{be64}
+use Rattle.storage.specs.declared.Ref.{Ref}
 use Rattle.alloc.specs.Block.{SFde, SFre}
 use Rattle.tree.specs.Fields.{total, slot_at, taken}
-use Rattle.calls.specs.declared.refusal.Refusal.{Refusal}
+use Rattle.calls.specs.declared.refusal.Refusal as declared-refusal
+use Rattle.calls.specs.Refusal.{Refusal}
 use Rattle.calls.specs.Reading.{block_in}
 use Rattle.calls.specs.Answers.{DirectoryIn}
 use Rattle.changes.specs.declared.make.New as declared-new
@@ -14,6 +16,11 @@ use Rattle.changes.specs.Changing.{Outcome, New, directory, file, allowed, Made}
 pub record Changes (o : Outcome) (refusal : Refusal) (image : List ℕ) : Type 0 where
   pub refusal_is : refusal ≡ o.refusal
   pub image-is : image ≡ o.image
+
+-- the ref that a make tells: 0 on a refusal
+abbrev pub ref_of : Result Ref declared-refusal.Refusal → ℕ
+ref_of (Ok r) = r.0
+ref_of (Err r) = 0
 
 -- the answer of a make
 pub record Makes (m : Made) (refusal : Refusal) (at : ℕ) (image : List ℕ) : Type 0 where

@@ -10,8 +10,7 @@ use Rattle.alloc.specs.Gaps.{tightest}
 use Rattle.alloc.specs.Room.{place_pair, released, updated, one_free}
 use Rattle.tree.specs.Fields.{is_file, slot_at, slots, taken_count, file_size, room}
 use Rattle.calls.specs.declared.refusal.Reason.TheVariants.{BadLength, NotFound, IsDirectory, Exists, NoSlot, NoRoom, NotEmpty, OutOfBounds, IsRoot, PastRoom}
-use Rattle.calls.specs.declared.refusal.Refusal.{Refusal}
-use Rattle.calls.specs.declared.refusal.Refusal.TheVariants.{Accepted, For}
+use Rattle.calls.specs.Refusal.{Accepted, For, Refusal}
 use Rattle.calls.specs.Walk.{slot_named, empty_slot, Start, refused, reached, start, start_above, last_name}
 use Rattle.calls.specs.Reading.{block_in}
 

@@ -3,14 +3,14 @@
 ghost use Rattle.std.specs.Prelude.{◌≡◌, ◌+◌, ◌-◌, ◌≤◌, ◌<◌, length};
 ghost use Rattle.tree.specs.Fields.{room};
 ghost use Rattle.calls.specs.Reading.{block_in};
-ghost use Rattle.calls.specs.Answers.{FileIn};
+ghost use Rattle.calls.specs.Refusal.{Accepted};
+ghost use Rattle.calls.specs.Answers.{FileIn, outcome_of};
 ghost use Rattle.changes.specs.Changing as spec;
 ghost use Rattle.changes.specs.Answers.{Changes};
 
 use alloc::{access, block};
 use calls::refusal::{Reason, Refusal};
 use calls::walk;
-use calls::walk::Start;
 use storage::{Pos, Ref};
 
 // The room of the file at `r`.
@@ -24,11 +24,11 @@ fn room_of(image: &[u8], r: Ref) -> u64
 // Bytes within the room: zeros in the gap after the old end, then the bytes, then the size.
 fn put(image: &mut [u8], r: Ref, position: u64, bytes: &[u8])
     requires { FileIn image.old r.0 × (0 < length bytes.now) × (position + length bytes.now ≤ room (block_in image.old r.0)) }
-    ensures { Changes (spec.written image.old r.0 position bytes.now) Refusal.Accepted image.new }
+    ensures { Changes (spec.written image.old r.0 position bytes.now) Accepted image.new }
 {
     let old = access::read_u64(image, r, Pos(0));
     let end = position + bytes.len() as u64;
-    let from = storage::smaller(position, old);
+    let from = position.min(old);
     access::zero(
         image,
         r,
@@ -36,77 +36,65 @@ fn put(image: &mut [u8], r: Ref, position: u64, bytes: &[u8])
         (position - from) as usize,
     );
     access::copy_in(image, r, Pos(16 + position as usize), bytes);
-    access::write_u64(image, r, Pos(0), storage::larger(old, end));
+    access::write_u64(image, r, Pos(0), old.max(end));
 }
 
 // To the file at `r`: refused past its room, or written.
-fn write_to(image: &mut [u8], r: Ref, position: u64, bytes: &[u8]) -> Refusal
+fn write_to(image: &mut [u8], r: Ref, position: u64, bytes: &[u8]) -> Result<(), Refusal>
     requires { FileIn image.old r.0 }
-    ensures { Changes (spec.write_to image.old r.0 position bytes.now) result image.new }
+    ensures { Changes (spec.write_to image.old r.0 position bytes.now) (outcome_of result) image.new }
 {
     let room = room_of(image, r);
     let count = bytes.len() as u64;
     if room < position {
-        return Refusal::For(Reason::PastRoom);
+        return Err(Refusal::For(Reason::PastRoom));
     }
     if room - position < count {
-        return Refusal::For(Reason::PastRoom);
+        return Err(Refusal::For(Reason::PastRoom));
     }
     if count == 0 {
-        return Refusal::Accepted;
+        return Ok(());
     }
     put(image, r, position, bytes);
-    Refusal::Accepted
+    Ok(())
 }
 
 // Bytes from any position on.
-pub fn write(image: &mut [u8], path: &[u8], position: u64, bytes: &[u8]) -> Refusal
-    ensures { Changes (spec.write image.old path.now position bytes.now) result image.new }
+pub fn write(image: &mut [u8], path: &[u8], position: u64, bytes: &[u8]) -> Result<(), Refusal>
+    ensures { Changes (spec.write image.old path.now position bytes.now) (outcome_of result) image.new }
 {
-    let begun = walk::begin(image, path, true);
-    let Start::Reached(r) = begun else {
-        return walk::refusal_of(begun);
-    };
-    if block::magic_at(image, r) != block::SFRE {
-        return Refusal::For(Reason::IsDirectory);
-    }
+    let r = walk::file(image, path, true)?;
     write_to(image, r, position, bytes)
 }
 
 // A length within the room: zeros between the old end and the new, then the size.
 fn resize(image: &mut [u8], r: Ref, size: u64)
     requires { FileIn image.old r.0 × (size ≤ room (block_in image.old r.0)) }
-    ensures { Changes (spec.resized image.old r.0 size) Refusal.Accepted image.new }
+    ensures { Changes (spec.resized image.old r.0 size) Accepted image.new }
 {
     let old = access::read_u64(image, r, Pos(0));
-    let from = storage::smaller(size, old);
-    let to = storage::larger(size, old);
+    let from = size.min(old);
+    let to = size.max(old);
     access::zero(image, r, Pos(16 + from as usize), (to - from) as usize);
     access::write_u64(image, r, Pos(0), size);
 }
 
 // Of the file at `r`: refused past its room, or set.
-fn set_length_of(image: &mut [u8], r: Ref, size: u64) -> Refusal
+fn set_length_of(image: &mut [u8], r: Ref, size: u64) -> Result<(), Refusal>
     requires { FileIn image.old r.0 }
-    ensures { Changes (spec.set_length_of image.old r.0 size) result image.new }
+    ensures { Changes (spec.set_length_of image.old r.0 size) (outcome_of result) image.new }
 {
     if room_of(image, r) < size {
-        return Refusal::For(Reason::PastRoom);
+        return Err(Refusal::For(Reason::PastRoom));
     }
     resize(image, r, size);
-    Refusal::Accepted
+    Ok(())
 }
 
 // The file cut off, or lengthened by zeros.
-pub fn set_length(image: &mut [u8], path: &[u8], size: u64) -> Refusal
-    ensures { Changes (spec.set_length image.old path.now size) result image.new }
+pub fn set_length(image: &mut [u8], path: &[u8], size: u64) -> Result<(), Refusal>
+    ensures { Changes (spec.set_length image.old path.now size) (outcome_of result) image.new }
 {
-    let begun = walk::begin(image, path, true);
-    let Start::Reached(r) = begun else {
-        return walk::refusal_of(begun);
-    };
-    if block::magic_at(image, r) != block::SFRE {
-        return Refusal::For(Reason::IsDirectory);
-    }
+    let r = walk::file(image, path, true)?;
     set_length_of(image, r, size)
 }

@@ -3,6 +3,7 @@
 ghost use Rattle.std.specs.Prelude.{◌≡◌, true, ◌+◌, ◌*◌, ◌≤◌, ◌<◌, length};
 ghost use Rattle.alloc.specs.Tiling.{length_allowed};
 ghost use Rattle.alloc.specs.Volume as volume;
+ghost use Rattle.calls.specs.Answers.{outcome_of};
 ghost use Rattle.changes.specs.Changing as spec;
 ghost use Rattle.changes.specs.Answers.{Changes};
 
@@ -26,19 +27,19 @@ fn fresh(image: &mut [u8], slots: u32)
 }
 
 // For any bytes: superblock and root, the rest one free block.
-pub fn format(image: &mut [u8], slots: u64) -> Refusal
-    ensures { Changes (spec.format image.old slots) result image.new }
+pub fn format(image: &mut [u8], slots: u64) -> Result<(), Refusal>
+    ensures { Changes (spec.format image.old slots) (outcome_of result) image.new }
 {
     let len = image.len();
     if !alloc::tiling::length_allowed(len) {
-        return Refusal::For(Reason::BadLength);
+        return Err(Refusal::For(Reason::BadLength));
     }
     if (slots < 1) | (1024 < slots) {
-        return Refusal::For(Reason::OutOfBounds);
+        return Err(Refusal::For(Reason::OutOfBounds));
     }
     if !alloc::create::has_room(len, fields::directory_size(slots as u32)) {
-        return Refusal::For(Reason::NoRoom);
+        return Err(Refusal::For(Reason::NoRoom));
     }
     fresh(image, slots as u32);
-    Refusal::Accepted
+    Ok(())
 }

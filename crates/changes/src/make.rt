@@ -4,33 +4,16 @@ ghost use Rattle.std.specs.Prelude.{◌≡◌, true, ◌≤◌, length};
 ghost use Rattle.alloc.specs.Block.{size_at};
 ghost use Rattle.alloc.specs.Room.{after_update};
 ghost use Rattle.alloc.specs.Sound.{Holds};
-ghost use Rattle.calls.specs.Answers.{DirectoryIn};
+ghost use Rattle.calls.specs.Answers.{DirectoryIn, outcome_of};
 ghost use Rattle.changes.specs.Changing as spec;
-ghost use Rattle.changes.specs.Answers.{new_of, magic_for, size_for, parent_field, Vacant, Makes, Named};
+ghost use Rattle.changes.specs.Answers.{new_of, ref_of, magic_for, size_for, parent_field, Vacant, Makes, Named};
 
 use alloc::pair::Pair;
 use alloc::{access, block, pair};
 use calls::refusal::{Reason, Refusal};
-use calls::slots::Index;
-use calls::walk::Start;
 use calls::{slots, walk};
 use storage::{Pos, Ref};
 use tree::fields;
-
-#[derive(Clone, Copy)]
-pub struct Made {
-    pub refusal: Refusal,
-    pub at: Ref,
-}
-
-fn unmade(refusal: Refusal) -> Made
-    ensures { (result.refusal ≡ refusal) × (result.at.0 ≡ 0) }
-{
-    Made {
-        refusal,
-        at: Ref(0),
-    }
-}
 
 // What is to be made: a directory with so many slots, or a file with so much room.
 #[derive(Clone, Copy)]
@@ -80,60 +63,52 @@ fn write_parent(image: &mut [u8], o: Ref, new: New, d: Ref)
 }
 
 // Both blocks, their data, and their refs in slot `i` of the directory at `d`; refused where there is no room.
-fn fill(image: &mut [u8], d: Ref, i: usize, name: &[u8], new: New) -> Made
+fn fill(image: &mut [u8], d: Ref, i: usize, name: &[u8], new: New) -> Result<Ref, Refusal>
     requires { Vacant image.old d.0 i name.now (new_of new) }
-    ensures { Makes (spec.fill_slot image.old (new_of new) name.now d.0 i) result.refusal result.at.0 image.new }
+    ensures { Makes (spec.fill_slot image.old (new_of new) name.now d.0 i) (outcome_of result) (ref_of result) image.new }
 {
     let placed = pair::place(image, name.len() as u32, magic_of(new), size_of(new));
     let Pair::At(n, o) = placed else {
-        return unmade(Refusal::For(Reason::NoRoom));
+        return Err(Refusal::For(Reason::NoRoom));
     };
     access::copy_in(image, n, Pos(0), name);
     write_parent(image, o, new, d);
     crate::slot::set(image, d, i, n, o);
-    Made {
-        refusal: Refusal::Accepted,
-        at: o,
-    }
+    Ok(o)
 }
 
 // In the directory at `d`: refused, or made.
-fn make_in(image: &mut [u8], d: Ref, name: &[u8], new: New) -> Made
+fn make_in(image: &mut [u8], d: Ref, name: &[u8], new: New) -> Result<Ref, Refusal>
     requires { DirectoryIn image.old d.0 × Named name.now × (spec.allowed (new_of new) ≡ true) }
-    ensures { Makes (spec.make_in image.old (new_of new) name.now d.0) result.refusal result.at.0 image.new }
+    ensures { Makes (spec.make_in image.old (new_of new) name.now d.0) (outcome_of result) (ref_of result) image.new }
 {
-    let there = slots::with_name(image, d, name);
-    let Index::Nowhere = there else {
-        return unmade(Refusal::For(Reason::Exists));
-    };
-    let empty = slots::empty(image, d);
-    let Index::At(i) = empty else {
-        return unmade(Refusal::For(Reason::NoSlot));
+    if slots::with_name(image, d, name).is_some() {
+        return Err(Refusal::For(Reason::Exists));
+    }
+    let Some(i) = slots::empty(image, d) else {
+        return Err(Refusal::For(Reason::NoSlot));
     };
     fill(image, d, i, name, new)
 }
 
 // The object that the path names.
-pub fn make(image: &mut [u8], path: &[u8], new: New) -> Made
-    ensures { Makes (spec.make image.old path.now (new_of new)) result.refusal result.at.0 image.new }
+pub fn make(image: &mut [u8], path: &[u8], new: New) -> Result<Ref, Refusal>
+    ensures { Makes (spec.make image.old path.now (new_of new)) (outcome_of result) (ref_of result) image.new }
 {
-    let begun = walk::begin_above(image, path, allowed(new), Reason::Exists);
-    let Start::Reached(d) = begun else {
-        return unmade(walk::refusal_of(begun));
-    };
+    let d = walk::begin_above(image, path, allowed(new), Reason::Exists)?;
     make_in(image, d, walk::last_name(path), new)
 }
 
 // A directory with so many empty slots.
-pub fn directory(image: &mut [u8], path: &[u8], slots: u64) -> Made
-    ensures { Makes (spec.make image.old path.now (spec.directory slots)) result.refusal result.at.0 image.new }
+pub fn directory(image: &mut [u8], path: &[u8], slots: u64) -> Result<Ref, Refusal>
+    ensures { Makes (spec.make image.old path.now (spec.directory slots)) (outcome_of result) (ref_of result) image.new }
 {
     make(image, path, New::Directory(slots))
 }
 
 // An empty file with so much room.
-pub fn file(image: &mut [u8], path: &[u8], room: u64) -> Made
-    ensures { Makes (spec.make image.old path.now (spec.file room)) result.refusal result.at.0 image.new }
+pub fn file(image: &mut [u8], path: &[u8], room: u64) -> Result<Ref, Refusal>
+    ensures { Makes (spec.make image.old path.now (spec.file room)) (outcome_of result) (ref_of result) image.new }
 {
     make(image, path, New::File(room))
 }

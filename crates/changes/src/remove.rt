@@ -4,14 +4,12 @@ ghost use Rattle.std.specs.Prelude.{◌≡◌, true, not, eqb};
 ghost use Rattle.alloc.specs.Volume as volume;
 ghost use Rattle.tree.specs.Fields.{slots, taken_count};
 ghost use Rattle.calls.specs.Reading.{block_in};
-ghost use Rattle.calls.specs.Answers.{ObjectAt, DirectoryIn};
+ghost use Rattle.calls.specs.Answers.{ObjectAt, DirectoryIn, outcome_of};
 ghost use Rattle.changes.specs.Changing as spec;
 ghost use Rattle.changes.specs.Answers.{Changes, TakenSlot};
 
 use alloc::{block, release};
 use calls::refusal::{Reason, Refusal};
-use calls::slots::Index;
-use calls::walk::Start;
 use calls::{slots, walk};
 use storage::Ref;
 use tree::fields;
@@ -41,30 +39,25 @@ fn clear(image: &mut [u8], d: Ref, i: usize)
 }
 
 // From the directory at `d`: refused, or removed.
-fn remove_in(image: &mut [u8], d: Ref, name: &[u8]) -> Refusal
+fn remove_in(image: &mut [u8], d: Ref, name: &[u8]) -> Result<(), Refusal>
     requires { DirectoryIn image.old d.0 }
-    ensures { Changes (spec.remove_in image.old name.now d.0) result image.new }
+    ensures { Changes (spec.remove_in image.old name.now d.0) (outcome_of result) image.new }
 {
-    let found = slots::with_name(image, d, name);
-    let Index::At(i) = found else {
-        return Refusal::For(Reason::NotFound);
+    let Some(i) = slots::with_name(image, d, name) else {
+        return Err(Refusal::For(Reason::NotFound));
     };
-    let s = fields::slot_at(image, d, i);
-    let object = s.object;
+    let object = fields::slot_at(image, d, i).object;
     if holds_some(image, object) {
-        return Refusal::For(Reason::NotEmpty);
+        return Err(Refusal::For(Reason::NotEmpty));
     }
     clear(image, d, i);
-    Refusal::Accepted
+    Ok(())
 }
 
 // The object that the path names.
-pub fn remove(image: &mut [u8], path: &[u8]) -> Refusal
-    ensures { Changes (spec.remove image.old path.now) result image.new }
+pub fn remove(image: &mut [u8], path: &[u8]) -> Result<(), Refusal>
+    ensures { Changes (spec.remove image.old path.now) (outcome_of result) image.new }
 {
-    let begun = walk::begin_above(image, path, true, Reason::IsRoot);
-    let Start::Reached(d) = begun else {
-        return walk::refusal_of(begun);
-    };
+    let d = walk::begin_above(image, path, true, Reason::IsRoot)?;
     remove_in(image, d, walk::last_name(path))
 }

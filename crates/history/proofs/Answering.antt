@@ -9,7 +9,7 @@ use Rattle.path.specs.Path.{components}
 use Rattle.alloc.specs.Tiling.{within}
 use Rattle.alloc.specs.Volume.{objects, volume_of}
 use Rattle.calls.specs.declared.refusal.Reason.TheVariants.{OutOfBounds}
-use Rattle.calls.specs.declared.refusal.Refusal.TheVariants.{Accepted, For}
+use Rattle.calls.specs.Refusal.{Accepted, For}
 use Rattle.calls.specs.Reading.{Found, block_in, copied, find, found_at, kind_of, point_at, read, read_at, read_point}
 use Rattle.calls.specs.Walk.{Walk, at, opening, reached, refused, start, walk_from, walked}
 use Rattle.calls.proofs.Steps.{opening-bounds, opening_none, or_passed, or_refused_lem}

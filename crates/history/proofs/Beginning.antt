@@ -12,9 +12,7 @@ use Rattle.tree.specs.Verdict.{verdict, well_formed}
 use Rattle.calls.specs.declared.refusal.Reason.{Reason}
 use Rattle.calls.specs.declared.refusal.Reason.TheVariants.{BadLength, BadPath, Exists, IsDirectory, IsRoot, NoRoom, NoSlot}
 use Rattle.calls.specs.declared.refusal.Reason.TheVariants.{NotDirectory, NotEmpty, NotFound, OutOfBounds, PastEnd, PastRoom, TooFewLines, TooFewMarks}
-use Rattle.calls.specs.declared.refusal.Refusal.{Refusal}
-use Rattle.calls.specs.declared.refusal.Refusal.TheVariants.{Accepted, For}
-use Rattle.calls.specs.Refusal.{accepted, broken, check, number_of, reason_number}
+use Rattle.calls.specs.Refusal.{Accepted, For, Refusal, accepted, broken, check, number_of, reason_number}
 use Rattle.calls.specs.Reading.{block_in}
 use Rattle.calls.specs.Walk.{Start, start, Walk, above_last, as_directory, at, blocked, missing, opening, or_refused, reached, refused, start_above, walk, walk_from, walked}
 

@@ -22,7 +22,7 @@ use Rattle.alloc.proofs.Heads.{volume}
 use Rattle.tree.specs.Fields.{file_size, is_file, room}
 use Rattle.tree.proofs.Formed.{file-there}
 use Rattle.calls.specs.declared.refusal.Reason.TheVariants.{IsDirectory, PastRoom}
-use Rattle.calls.specs.declared.refusal.Refusal.TheVariants.{Accepted, For}
+use Rattle.calls.specs.Refusal.{Accepted, For}
 use Rattle.calls.specs.Reading.{block_in}
 use Rattle.calls.specs.Walk.{last_name, reached, walk_from}
 use Rattle.changes.specs.Changing.{set_length, set_length_at, set_length_of, unchanged, write, write_at, write_to}

@@ -13,7 +13,7 @@ use borrow.Author.Tests.{le-leb, leb-false, leb-true, lt-leb}
 use Rattle.storage.specs.Bytes.{u64_at}
 use Rattle.alloc.specs.Volume.{Objects, objects, volume_of}
 use Rattle.calls.specs.declared.refusal.Reason.TheVariants.{TooFewLines}
-use Rattle.calls.specs.declared.refusal.Refusal.TheVariants.{Accepted, For}
+use Rattle.calls.specs.Refusal.{Accepted, For}
 use Rattle.history.specs.Listing.{Line, Listed, lines_of, list, object_lines}
 use Rattle.history.specs.Book.{Tree}
 use Rattle.history.specs.Claim.{Claim, Each, both, chain_from, entries, line_owners, neither, owned, owner_at, owners}

@@ -19,8 +19,7 @@ use Rattle.alloc.proofs.Creating.{empty_placed, empty-sound}
 use Rattle.alloc.proofs.Cuts.{length-parts}
 use Rattle.alloc.proofs.Soundness.{image-length, image-sound, image-volume}
 use Rattle.calls.specs.declared.refusal.Reason.TheVariants.{BadLength, NoRoom, OutOfBounds}
-use Rattle.calls.specs.declared.refusal.Refusal.TheVariants.{For}
-use Rattle.calls.specs.Refusal.{accepted}
+use Rattle.calls.specs.Refusal.{For, accepted}
 use Rattle.changes.specs.Changing.{Outcome, directory, done, format, formatted, new_directory, unchanged}
 use Rattle.history.specs.Book.{empty_slots}
 use Rattle.history.proofs.EmptyRow.{empty-book, empty_height, empty_stands, empty-sum, empty_row}

@@ -21,7 +21,7 @@ use Rattle.alloc.specs.Volume.{Volume, allocated, image, objects, volume_of}
 use Rattle.alloc.proofs.Heads.{volume}
 use Rattle.tree.proofs.Formed.{dir_there}
 use Rattle.calls.specs.declared.refusal.Reason.TheVariants.{Exists, NoRoom, NoSlot}
-use Rattle.calls.specs.declared.refusal.Refusal.TheVariants.{Accepted, For}
+use Rattle.calls.specs.Refusal.{Accepted, For}
 use Rattle.calls.specs.Reading.{block_in}
 use Rattle.calls.specs.Walk.{empty_slot, last_name, slot_named}
 use Rattle.changes.specs.Changing.{Made, New, allowed, fill_slot, make, make_at, make_in, new_block, new_name, set_slot, unmade, with_root}

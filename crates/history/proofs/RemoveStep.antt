@@ -19,7 +19,7 @@ use Rattle.alloc.proofs.Heads.{volume}
 use Rattle.tree.specs.Fields.{Slot, slot_at, slots, taken_count, total}
 use Rattle.tree.proofs.Formed.{dir_there, name-there}
 use Rattle.calls.specs.declared.refusal.Reason.TheVariants.{IsRoot, NotEmpty, NotFound}
-use Rattle.calls.specs.declared.refusal.Refusal.TheVariants.{Accepted, For}
+use Rattle.calls.specs.Refusal.{Accepted, For}
 use Rattle.calls.specs.Reading.{block_in}
 use Rattle.calls.specs.Walk.{last_name, slot_named}
 use Rattle.changes.specs.Changing.{done, remove, remove_at, remove_in, removed, set_slot, unchanged, with_root}

@@ -14,9 +14,7 @@ use Rattle.alloc.proofs.Soundness.{image-length, image-sound, image-volume}
 use Rattle.tree.specs.Fields.{is_dir, is_file}
 use Rattle.tree.proofs.Formed.{dir_there, file-there}
 use Rattle.calls.specs.declared.refusal.Reason.{Reason}
-use Rattle.calls.specs.declared.refusal.Refusal.{Refusal}
-use Rattle.calls.specs.declared.refusal.Refusal.TheVariants.{Accepted, For}
-use Rattle.calls.specs.Refusal.{accepted}
+use Rattle.calls.specs.Refusal.{Accepted, For, Refusal, accepted}
 use Rattle.calls.specs.Reading.{block_in}
 use Rattle.calls.specs.Walk.{reached, walk_from, walked}
 use Rattle.changes.specs.Changing.{Outcome}

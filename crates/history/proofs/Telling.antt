@@ -23,9 +23,7 @@ use Rattle.tree.specs.WellFormed.{Judged}
 use Rattle.tree.proofs.Verdicts.{judged, judged_only}
 use Rattle.calls.specs.declared.refusal.Reason.{Reason}
 use Rattle.calls.specs.declared.refusal.Reason.TheVariants.{Exists, IsDirectory, IsRoot, NoRoom, NoSlot, NotEmpty, NotFound, PastEnd, PastRoom, TooFewLines}
-use Rattle.calls.specs.declared.refusal.Refusal.{Refusal}
-use Rattle.calls.specs.declared.refusal.Refusal.TheVariants.{Accepted, For}
-use Rattle.calls.specs.Refusal.{broken, place_of}
+use Rattle.calls.specs.Refusal.{Accepted, For, Refusal, broken, place_of}
 use Rattle.calls.specs.Reading.{block_in}
 use Rattle.calls.specs.Walk.{empty_slot, last_name, slot_named}
 use Rattle.changes.specs.Changing.{New, new_block, new_directory, new_name, set_slot, unchanged, unmade, with_root}

@@ -2,8 +2,7 @@
 use Rattle.std.specs.Prelude.{ℕ, zero, suc, ◌+◌, ◌-◌, List, [], ◌∷◌, ◌++◌, map, length, replicate}
 use Rattle.std.proofs.Math.Option.{Option, some}
 use Rattle.storage.specs.Bytes.{zeroed}
-use Rattle.calls.specs.declared.refusal.Refusal.TheVariants.{Accepted, Broken}
-use Rattle.calls.specs.Refusal.{number_of}
+use Rattle.calls.specs.Refusal.{Accepted, Broken, number_of}
 use Rattle.calls.specs.Reading.{Kind, file, directory}
 use Rattle.changes.specs.Changing as new
 use Rattle.history.specs.Book.{Tree, end, empty, file_slot, dir_slot}

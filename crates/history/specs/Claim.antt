@@ -8,8 +8,7 @@ use Rattle.alloc.specs.Tiling.{within}
 use Rattle.tree.specs.Fields.{is_name}
 use Rattle.tree.specs.Verdict.{well_formed}
 use Rattle.calls.specs.declared.refusal.Reason.TheVariants.{OutOfBounds, PastEnd, TooFewLines}
-use Rattle.calls.specs.declared.refusal.Refusal.TheVariants.{Accepted, For}
-use Rattle.calls.specs.Refusal.{accepted}
+use Rattle.calls.specs.Refusal.{Accepted, For, accepted}
 use Rattle.calls.specs.Reading.{block_in, Kind, file, directory, find, read, copied, Point, no_point, read_point}
 use Rattle.changes.specs.Changing as changing
 use Rattle.history.specs.Listing.{Line, list}

@@ -2,10 +2,9 @@
 use Rattle.std.specs.Prelude.{ℕ, List, [], ◌∷◌, cond}
 use Rattle.std.proofs.Math.Option.{Option, none, some}
 use Rattle.path.specs.Path.{components, all_but_last}
-use Rattle.calls.specs.declared.refusal.Refusal.{Refusal}
+use Rattle.calls.specs.Refusal.{Refusal, accepted}
 use Rattle.calls.specs.Walk.{last_name}
 use Rattle.calls.specs.Refusal as refusal
-use Rattle.calls.specs.Refusal.{accepted}
 use Rattle.calls.specs.Reading as reading
 use Rattle.changes.specs.Changing as changing
 use Rattle.changes.specs.Changing.{Outcome, Made, New}

@@ -6,9 +6,7 @@ use Rattle.alloc.specs.Volume.{Objects, volume_of, objects, block_at}
 use Rattle.tree.specs.Fields.{Slot, slots, taken}
 use Rattle.tree.specs.Verdict.{well_formed}
 use Rattle.calls.specs.declared.refusal.Reason.TheVariants.{TooFewLines}
-use Rattle.calls.specs.declared.refusal.Refusal.{Refusal}
-use Rattle.calls.specs.declared.refusal.Refusal.TheVariants.{Accepted, For}
-use Rattle.calls.specs.Refusal.{check}
+use Rattle.calls.specs.Refusal.{Accepted, For, Refusal, check}
 use Rattle.calls.specs.Reading.{Kind, kind_of}
 
 -- a line: the object's ref, its parent's, its name's (0 for the root), its depth, and its kind with the two numbers

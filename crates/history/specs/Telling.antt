@@ -1,8 +1,7 @@
 -- Document 02's #101: which rule the image breaks, and where, as every call tells it that looks at the image.
 use Rattle.std.specs.Prelude.{ℕ, suc, ◌+◌, ◌/◌, ◌≤◌, List, ◌≡◌, Bool, true, false, leb, length}
 use Rattle.tree.specs.WellFormed.{Judged}
-use Rattle.calls.specs.declared.refusal.Refusal.{Refusal}
-use Rattle.calls.specs.Refusal.{number_of, place_of}
+use Rattle.calls.specs.Refusal.{Refusal, number_of, place_of}
 use Rattle.history.specs.History.{Call, format, check, check_marked, find, make, read, read_point, write, set_length, remove, listing, step}
 use Rattle.history.specs.Claim.{Bytes}
 

@@ -4,7 +4,7 @@ use Rattle.std.proofs.Math.Option.{Option, none, some}
 use Rattle.storage.specs.declared.Ref.{Ref}
 use Rattle.tree.specs.Fields.{total}
 use Rattle.tree.specs.Verdict.{well_formed}
-use Rattle.calls.specs.declared.refusal.Refusal.{Refusal}
+use Rattle.calls.specs.Refusal.{Refusal}
 use Rattle.calls.specs.declared.reading.Kind as declared-kind
 use Rattle.calls.specs.declared.reading.Kind.TheVariants.{File, Directory}
 use Rattle.calls.specs.Answers.{kind_is}

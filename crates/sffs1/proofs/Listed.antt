@@ -6,8 +6,7 @@ use mathlib.Core.Path.{◌∙◌, ◌≡◌, ap, refl, subst, sym}
 use lib.Dec.{eqb}
 use lib.ListN.{length, take}
 use Rattle.storage.specs.Bytes.{splice}
-use Rattle.calls.specs.declared.refusal.Refusal.{Refusal}
-use Rattle.calls.specs.Refusal.{accepted}
+use Rattle.calls.specs.Refusal.{Refusal, accepted}
 use Rattle.history.specs.Listing.{lines_of}
 use Rattle.listing.specs.Answers.{AnswersFor}
 use Rattle.listing.specs.Numbers.{numbers_of}

@@ -2,10 +2,9 @@
 use Prim.Native.Nat.{ℕ}
 use mathlib.Core.List.{List}
 use mathlib.Core.Path.{◌∙◌, ◌≡◌, ap}
-use Rattle.calls.specs.declared.refusal.Refusal.{Refusal}
+use Rattle.calls.specs.Refusal.{Checked, Refusal, number_of, place_of}
 use Rattle.calls.specs.Answers.{Checks, Points, Reads}
 use Rattle.calls.specs.Reading.{Point, Read}
-use Rattle.calls.specs.Refusal.{Checked, number_of, place_of}
 use Rattle.changes.specs.Answers.{Changes, Makes}
 use Rattle.changes.specs.Changing.{Made, Outcome}
 use Rattle.sffs1.specs.Numbers.{Tells, TellsChecked, TellsMade, TellsOutcome, TellsPoint, TellsRead}

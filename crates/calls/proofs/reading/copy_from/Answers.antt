@@ -14,8 +14,8 @@ overflow_add-position c = omega (arith, size-high (λ i. (c.type_inv.image i).fi
 
 pub copy_out-requires : goal.copy_out-requires
 copy_out-requires c =
-    let k = copy_inside (λ i. (c.type_inv.image i).fits) c.requires c.read_u64-size.ensures c.args.position c.smaller-n.result c.args.buffer.now (omega arith) c.smaller-n.ensures in
+    let k = copy_inside (λ i. (c.type_inv.image i).fits) c.requires c.read_u64-size.ensures c.args.position c.min-n.result c.args.buffer.now (omega arith) c.min-n.ensures in
     (file-standing (λ i. (c.type_inv.image i).fits) c.requires, k.0, k.1)
 
 pub returns : goal.returns
-returns c = copies_some (λ i. (c.type_inv.image i).fits) c.requires c.read_u64-size.ensures c.args.position c.smaller-n.result c.args.buffer.now (omega arith) c.smaller-n.ensures _ c.copy_out.ensures
+returns c = copies_some (λ i. (c.type_inv.image i).fits) c.requires c.read_u64-size.ensures c.args.position c.min-n.result c.args.buffer.now (omega arith) c.min-n.ensures _ c.copy_out.ensures

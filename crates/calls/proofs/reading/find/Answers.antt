@@ -1,17 +1,18 @@
 -- find: by how it begins.
-use Rattle.calls.proofs.Outcomes.{find-refused, find-reached}
+use Rattle.calls.proofs.Outcomes.{find-so}
 use Rattle.calls.proofs.Steps.{start-object}
-use Rattle.calls.specs.Answers.{start_of}
-use mathlib.Core.Path.{sym, ap, ◌∙◌}
+use Rattle.calls.proofs.Told.{err_is}
+use Rattle.calls.specs.Reading.{Found, Kind}
+use Rattle.calls.specs.Refusal.{Accepted}
+use mathlib.Core.Path.{◌∙◌, ap}
 use Rattle.calls.proofs.reading.find.Goals as goal
 
 pub kind_at-requires : goal.kind_at-requires
-kind_at-requires c =
-    start-object (λ i. (c.type_inv.image i).fits) _ _ _
-    (sym (ap start_of c.in-Reached.is) ∙ c.begin.ensures)
+kind_at-requires c = start-object (λ i. (c.type_inv.image i).fits) _ _ _ c.in_ok-at.ensures
 
-pub returns-in-Refused : goal.returns-in-Refused
-returns-in-Refused c = find-refused _ _ _ (sym (ap start_of c.in-Refused.is) ∙ c.begin.ensures)
+pub returns-in_err-at : goal.returns-in_err-at
+returns-in_err-at c = rw (err_is _ c.in_err-at.field-0.0 c.from_residual.ensures.1) (find-so _ _ _ c.in_err-at.ensures)
 
-pub returns-in-Reached : goal.returns-in-Reached
-returns-in-Reached c = find-reached _ _ _ _ (sym (ap start_of c.in-Reached.is) ∙ c.begin.ensures) c.kind_at.ensures
+pub returns : goal.returns
+returns c =
+    ap (λ (k : Kind). let f : Found = record { refusal = Accepted; at = c.in_ok-at.at.0; kind = k } in f) c.kind_at.ensures ∙ find-so _ _ _ c.in_ok-at.ensures

@@ -2,7 +2,7 @@
 use Rattle.calls.proofs.Contents.{file-standing, file_numbers, point_none, point-inside, point_some}
 use Rattle.calls.specs.Reading.{Point}
 use borrow.Author.Rules.{rules}
-use mathlib.Core.Path.{ap, ◌∙◌}
+use mathlib.Core.Path.{ap}
 use native.Mathlib.Omega.{arith}
 use Rattle.calls.proofs.reading.point_at.Goals as goal
 
@@ -11,14 +11,8 @@ read_u64-size-requires c = (file-standing (λ i. (c.type_inv.image i).fits) c.re
 
 pub returns-then-size-n : goal.returns-then-size-n
 returns-then-size-n c =
-    record {
-      refusal_is = c.no_point.ensures.0 ∙ ap (λ (p : Point). p.refusal)
-          (point_none (λ i. (c.type_inv.image i).fits) c.requires.0 c.read_u64-size.ensures
-          c.args.n (omega arith));
-      bytes-is = c.no_point.ensures.1 ∙ ap (λ (p : Point). p.bytes)
-          (point_none (λ i. (c.type_inv.image i).fits) c.requires.0 c.read_u64-size.ensures
-          c.args.n (omega arith));
-    }
+    let p = point_none (λ i. (c.type_inv.image i).fits) c.requires.0 c.read_u64-size.ensures c.args.n (omega arith) in
+    record { refusal_is = ap (λ (p : Point). p.refusal) p; bytes-is = ap (λ (p : Point). p.bytes) p }
 
 pub copy_out-requires : goal.copy_out-requires
 copy_out-requires c = (

@@ -1,14 +1,10 @@
 -- has_name: an empty slot has none; a taken one by its name block.
-use Prim.Native.Nat.{◌<◌}
-use Rattle.alloc.specs.Block.{Block}
-use Rattle.calls.proofs.Stands.{directory-stands}
+use Rattle.calls.proofs.Stands.{directory-stands, slot_here}
 use Rattle.calls.proofs.Steps.{named-empty, named-taken, name-standing}
-use Rattle.tree.specs.Fields.{total}
-use mathlib.Core.Path.{sym, subst}
 use Rattle.calls.proofs.slots.has_name.Goals as goal
 
 pub slot_at-s-requires : goal.slot_at-s-requires
-slot_at-s-requires c = ((directory-stands (λ i. (c.type_inv.image i).fits) c.requires.0).0, subst (λ (b : Block). c.args.i < total b) (sym (directory-stands (λ i. (c.type_inv.image i).fits) c.requires.0).1) c.requires.1)
+slot_at-s-requires c = ((directory-stands (λ i. (c.type_inv.image i).fits) c.requires.0).0, slot_here (λ i. (c.type_inv.image i).fits) c.requires.0 _ c.requires.1)
 
 pub returns-then-object-eq0 : goal.returns-then-object-eq0
 returns-then-object-eq0 c = named-empty (λ i. (c.type_inv.image i).fits) c.requires.0 c.requires.1 c.slot_at-s.ensures _ c.if-object-eq0.true

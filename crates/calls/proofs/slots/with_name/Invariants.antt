@@ -1,5 +1,4 @@
 -- with_name: the slots passed have other names, so the rest decides.
-use Prim.Native.Nat.{◌-◌}
 use Rattle.alloc.specs.Volume.{block_at, objects, volume_of}
 use Rattle.calls.proofs.Lowest.{Seeking}
 use Rattle.calls.specs.Reading.{block_in}
@@ -10,6 +9,3 @@ use Rattle.calls.proofs.slots.with_name.Given as goal
 
 abbrev pub invariant-loop-i : goal.invariant-loop-i
 invariant-loop-i l = Seeking (λ s. taken s && same (block_at (objects (volume_of l.image)) s.0).body l.name) (block_in l.image l.d.0) l.i
-
-abbrev pub decreases-loop-i : goal.decreases-loop-i
-decreases-loop-i l = l.n - l.i

@@ -1,16 +1,18 @@
 -- begin: refused first, or the walk.
-use Rattle.calls.proofs.Steps.{opened_formed, or_passed, or_refused_lem}
+use Rattle.calls.proofs.Steps.{opened_formed, first-passed, first-refused}
+use Rattle.calls.proofs.Told.{err_is}
 use Rattle.calls.specs.Walk.{start}
 use mathlib.Core.Path.{◌∙◌}
 use Rattle.calls.proofs.walk.begin.Goals as goal
 
-pub returns-then-number-ne0 : goal.returns-then-number-ne0
+pub returns-in_err-opening : goal.returns-in_err-opening
 unfolding start
-returns-then-number-ne0 c = or_refused_lem _ _ c.opening-first.ensures c.number.ensures c.if-number-ne0.true
+returns-in_err-opening c =
+    rw (err_is _ c.in_err-opening.field-0.0 c.from_residual.ensures.1) (first-refused _ _ _ _ c.in_err-opening.field-0.0 c.in_err-opening.ensures)
 
 pub walk_from-requires : goal.walk_from-requires
-walk_from-requires c = opened_formed _ _ _ c.opening-first.ensures c.number.ensures c.if-number-ne0.false
+walk_from-requires c = opened_formed _ _ _ c.in_ok-opening.ensures
 
 pub returns : goal.returns
 unfolding start
-returns c = c.walk_from.ensures ∙ or_passed _ _ c.opening-first.ensures c.number.ensures c.if-number-ne0.false
+returns c = c.walk_from.ensures ∙ first-passed _ _ _ _ c.in_ok-opening.ensures

@@ -1,6 +1,8 @@
 -- take_step: what is no directory blocks the way.
 use Rattle.calls.proofs.Stands.{object-at, object-directory, no_directory}
 use Rattle.calls.proofs.Steps.{step-blocked}
+use Rattle.calls.specs.Walk.{walked}
+use mathlib.Core.Path.{ap}
 use native.Mathlib.Omega.{arith}
 use Rattle.calls.proofs.walk.take_step.Goals as goal
 
@@ -8,7 +10,7 @@ pub magic_at-requires : goal.magic_at-requires
 magic_at-requires c = omega (arith, (object-at (λ i. (c.type_inv.image i).fits) c.requires).standing.fits)
 
 pub returns-then-magic_at-ne-SFDE : goal.returns-then-magic_at-ne-SFDE
-returns-then-magic_at-ne-SFDE c = step-blocked _ _ _ (no_directory (λ i. (c.type_inv.image i).fits) c.requires c.magic_at.ensures c.if-magic_at-ne-SFDE.true)
+returns-then-magic_at-ne-SFDE c = ap walked (step-blocked _ _ _ (no_directory (λ i. (c.type_inv.image i).fits) c.requires c.magic_at.ensures c.if-magic_at-ne-SFDE.true))
 
 pub child-requires : goal.child-requires
 child-requires c = object-directory (λ i. (c.type_inv.image i).fits) c.requires c.magic_at.ensures c.if-magic_at-ne-SFDE.false

@@ -1,11 +1,7 @@
 -- walk_from: component after component.
-use Prim.Native.Nat.{◌-◌}
 use Rattle.calls.proofs.Steps.{Walking}
 use Rattle.path.specs.Path.{components}
 use Rattle.calls.proofs.walk.walk_from.Given as goal
 
 abbrev pub invariant-loop-i : goal.invariant-loop-i
 invariant-loop-i l = Walking l.image (components l.path) l.here.0 l.i
-
-abbrev pub decreases-loop-i : goal.decreases-loop-i
-decreases-loop-i l = l.n - l.i

@@ -11,19 +11,19 @@ pub overflow_add-end : goal.overflow_add-end
 overflow_add-end c = omega (arith, room-is (λ i. (c.slice_known-1.given i).fits) c.requires.0, file_numbers (λ i. (c.slice_known-1.given i).fits) c.requires.0)
 
 pub overflow_add-from : goal.overflow_add-from
-overflow_add-from c = omega (arith, room-is (λ i. (c.slice_known-1.given i).fits) c.requires.0, file_numbers (λ i. (c.slice_known-1.given i).fits) c.requires.0, c.smaller-from.ensures)
+overflow_add-from c = omega (arith, room-is (λ i. (c.slice_known-1.given i).fits) c.requires.0, file_numbers (λ i. (c.slice_known-1.given i).fits) c.requires.0, c.min-from.ensures)
 
 pub zero-requires : goal.zero-requires
-zero-requires c = store_at (open_file (λ i. (c.slice_known-1.given i).fits) c.requires.0) _ _ (omega (arith, c.smaller-from.ensures))
+zero-requires c = store_at (open_file (λ i. (c.slice_known-1.given i).fits) c.requires.0) _ _ (omega (arith, c.min-from.ensures))
 
 pub overflow_add-position : goal.overflow_add-position
 overflow_add-position c = omega (arith, room-is (λ i. (c.slice_known-1.given i).fits) c.requires.0, file_numbers (λ i. (c.slice_known-1.given i).fits) c.requires.0)
 
 pub copy_in-requires : goal.copy_in-requires
-copy_in-requires c = store_at (gap_open (λ i. (c.slice_known-1.given i).fits) c.requires.0 c.read_u64-old.ensures c.args.position c.args.bytes.now c.smaller-from.ensures c.requires.2 c.zero.ensures) _ _ (omega arith)
+copy_in-requires c = store_at (gap_open (λ i. (c.slice_known-1.given i).fits) c.requires.0 c.read_u64-old.ensures c.args.position c.args.bytes.now c.min-from.ensures c.requires.2 c.zero.ensures) _ _ (omega arith)
 
 pub write_u64-requires : goal.write_u64-requires
-write_u64-requires c = store_at (bytes_open (λ i. (c.slice_known-1.given i).fits) c.requires.0 c.read_u64-old.ensures c.args.position c.args.bytes.now c.smaller-from.ensures c.requires.2 c.zero.ensures c.copy_in.ensures) 0 8 (omega arith)
+write_u64-requires c = store_at (bytes_open (λ i. (c.slice_known-1.given i).fits) c.requires.0 c.read_u64-old.ensures c.args.position c.args.bytes.now c.min-from.ensures c.requires.2 c.zero.ensures c.copy_in.ensures) 0 8 (omega arith)
 
 pub returns : goal.returns
-returns c = written-done (λ i. (c.slice_known-1.given i).fits) c.requires.0 c.read_u64-old.ensures c.args.position c.args.bytes.now c.smaller-from.ensures c.requires.2 c.zero.ensures c.copy_in.ensures c.requires.1 c.larger.ensures c.write_u64.ensures
+returns c = written-done (λ i. (c.slice_known-1.given i).fits) c.requires.0 c.read_u64-old.ensures c.args.position c.args.bytes.now c.min-from.ensures c.requires.2 c.zero.ensures c.copy_in.ensures c.requires.1 c.max.ensures c.write_u64.ensures

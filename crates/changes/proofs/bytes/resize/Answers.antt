@@ -17,7 +17,7 @@ overflow_add-from c =
       arith,
       room-is h c.requires.0,
       file_numbers h c.requires.0,
-      c.smaller-from.ensures,
+      c.min-from.ensures,
     )
 
 pub zero-requires : goal.zero-requires
@@ -25,7 +25,7 @@ zero-requires c =
     let h : AllBytes c.args.image.now = λ i. (c.slice_known-1.given i).fits in
     store_at (open_file h c.requires.0) _ _
     (cut_inside h c.requires.0 c.read_u64-old.ensures c.args.size
-    (omega (arith, c.smaller-from.ensures)) c.larger-to.ensures c.requires.1)
+    (omega (arith, c.min-from.ensures)) c.max-to.ensures c.requires.1)
 
 pub write_u64-requires : goal.write_u64-requires
 write_u64-requires c =
@@ -33,8 +33,8 @@ write_u64-requires c =
     (c.slice_known-1.given i).fits in
     store_at
     (cut_open h c.requires.0 c.read_u64-old.ensures
-    c.args.size (omega (arith, c.smaller-from.ensures))
-    c.larger-to.ensures c.requires.1
+    c.args.size (omega (arith, c.min-from.ensures))
+    c.max-to.ensures c.requires.1
     c.zero.ensures) 0 8
     (omega arith)
 
@@ -45,8 +45,8 @@ returns c =
     resized-done h c.requires.0
     c.read_u64-old.ensures
     c.args.size
-    (omega (arith, c.smaller-from.ensures))
-    c.larger-to.ensures
+    (omega (arith, c.min-from.ensures))
+    c.max-to.ensures
     c.requires.1
-    c.zero.ensures c.smaller-from.ensures
+    c.zero.ensures c.min-from.ensures
     c.write_u64.ensures

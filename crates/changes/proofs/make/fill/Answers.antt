@@ -1,6 +1,6 @@
 -- fill: placed, and filled store by store.
 use Rattle.alloc.specs.Answers.{pair_at}
-use Rattle.changes.proofs.Making.{fill_done, fill_name, fill_none, fill_object, fill_slot_lem, name-object, new_object, object-told, pair_told, unmade-told, vacant-sound}
+use Rattle.changes.proofs.Making.{fill_done, fill_name, fill_none, fill_object, fill_slot_lem, name-object, new_object, object-told, pair_told, vacant-sound}
 use Rattle.changes.specs.Answers.{new_of}
 use mathlib.Core.Path.{ap}
 use native.Mathlib.Omega.{arith}
@@ -16,9 +16,7 @@ pub place-placed-requires : goal.place-placed-requires
 place-placed-requires c = (vacant-sound (λ i. (c.slice_known-1.given i).fits) c.requires, name-object c.requires.name, object-told c.magic_of.ensures c.size_of.ensures (new_object (new_of c.args.new) c.requires.bounds))
 
 pub returns-in_default : goal.returns-in_default
-returns-in_default c =
-    unmade-told c.unmade.ensures.0 c.unmade.ensures.1
-    (fill_none (λ i. (c.slice_known-1.given i).fits) c.requires (pair_told c.magic_of.ensures c.size_of.ensures (ap pair_at c.in_default.is) c.place-placed.ensures))
+returns-in_default c = fill_none (λ i. (c.slice_known-1.given i).fits) c.requires (pair_told c.magic_of.ensures c.size_of.ensures (ap pair_at c.in_default.is) c.place-placed.ensures)
 
 pub copy_in-requires : goal.copy_in-requires
 copy_in-requires c = fill_name (λ i. (c.slice_known-1.given i).fits) c.requires (pair_told c.magic_of.ensures c.size_of.ensures (ap pair_at c.in-At.is) c.place-placed.ensures)
