@@ -9,6 +9,7 @@ use std::{fmt, io};
 use storage::{Offset, Ref};
 
 // Bytes in hex, eight to a word.
+#[derive(Clone, Copy)]
 struct Words<'a>(&'a [u8]);
 
 impl fmt::Display for Words<'_> {
