@@ -1,6 +1,6 @@
 // A call, and the line with what it answers; a part of an image, and its line.
 
-ghost use Rattle.std.specs.Prelude.{◌+◌, ◌≤◌, ◌<◌, length, ◌≡◌};
+ghost use Rattle.std.specs.Prelude.{◌≤◌, ◌<◌, length, ◌≡◌};
 ghost use Rattle.changes.specs.Changing as changing;
 
 use calls::reading;
