@@ -6,12 +6,11 @@ ghost use Rattle.std.specs.Prelude.{◌≡◌, ◌<◌, ◌≤◌, length, take,
 ghost use Rattle.std.specs.Io.KnownBytes.{Consumes, IsAtEnd};
 ghost use Rattle.show.specs.Words.{spread_over};
 
-use calls::reading::Kind;
-use calls::refusal;
-use calls::refusal::Refusal;
 use std::io;
 use std::io::Read;
 use storage::Offset;
+
+pub mod text;
 
 // The first word of a block is its magic and its size.
 pub const SUPERBLOCK: u64 = 0x53463031_00000000;
@@ -47,41 +46,6 @@ pub fn say(rt: &impl Print, text: &[u8]) -> io::Result<()> {
 pub fn say_number(rt: &impl Print, text: &[u8], n: u64) -> io::Result<()> {
     say(rt, text)?;
     rt.print(n)
-}
-
-// A path in quotes, since it may be empty.
-pub fn say_path(rt: &impl Print, text: &[u8], path: &[u8]) -> io::Result<()> {
-    say(rt, text)?;
-    say(rt, b"\"")?;
-    say(rt, path)?;
-    say(rt, b"\"")
-}
-
-// What a call answers: its number, and the place where the image breaks a rule.
-pub fn say_answer(rt: &impl Print, number: u8, place: u64) -> io::Result<()> {
-    say_number(rt, b": ", number as u64)?;
-    if 20 < number {
-        say_number(rt, b" at ", place)?;
-    }
-    Ok(())
-}
-
-pub fn say_refusal(rt: &impl Print, r: Refusal) -> io::Result<()> {
-    say_answer(rt, refusal::number(r), refusal::place(r).0)
-}
-
-// A kind and its two numbers.
-pub fn say_kind(rt: &impl Print, kind: Kind) -> io::Result<()> {
-    match kind {
-        Kind::File { size, room } => {
-            say_number(rt, b", file ", size)?;
-            say_number(rt, b"/", room)
-        }
-        Kind::Directory { taken, total } => {
-            say_number(rt, b", directory ", taken)?;
-            say_number(rt, b"/", total)
-        }
-    }
 }
 
 // Reads until `buffer` is full or the input ends: how many bytes are read, to its front.

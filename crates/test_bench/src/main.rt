@@ -13,28 +13,28 @@ mod tell;
 
 fn formatted() -> [u8; 256] {
     let mut image = [7u8; 256];
-    changes::format::format(&mut image, 2);
+    let _ = changes::format::format(&mut image, 2);
     image
 }
 
 // With the file /heel, room 32.
 fn with_heel() -> [u8; 256] {
     let mut image = formatted();
-    changes::make::file(&mut image, b"/heel", 32);
+    let _ = changes::make::file(&mut image, b"/heel", 32);
     image
 }
 
 // With /heel and the directory /a, 1 slot.
 fn with_both() -> [u8; 256] {
     let mut image = with_heel();
-    changes::make::directory(&mut image, b"/a", 1);
+    let _ = changes::make::directory(&mut image, b"/a", 1);
     image
 }
 
 // With /a, /heel removed.
 fn without_heel() -> [u8; 256] {
     let mut image = with_both();
-    changes::remove::remove(&mut image, b"/heel");
+    let _ = changes::remove::remove(&mut image, b"/heel");
     image
 }
 
@@ -48,7 +48,7 @@ fn format_card(rt: &impl Print) -> io::Result<()> {
 
 fn make_heel(rt: &impl Print) -> io::Result<()> {
     let mut image = formatted();
-    tell::make_file(rt, &mut image, b"/heel", 32)?;
+    tell::make_file(rt, &mut image, "/heel", 32)?;
     tell::superblock(rt, &image)?;
     tell::slot(rt, &image, 0)?;
     tell::block(rt, &image, Ref(5))?;
@@ -58,7 +58,7 @@ fn make_heel(rt: &impl Print) -> io::Result<()> {
 
 fn make_a(rt: &impl Print) -> io::Result<()> {
     let mut image = with_heel();
-    tell::make_directory(rt, &mut image, b"/a", 1)?;
+    tell::make_directory(rt, &mut image, "/a", 1)?;
     tell::superblock(rt, &image)?;
     tell::slot(rt, &image, 1)?;
     tell::block(rt, &image, Ref(10))?;
@@ -69,33 +69,32 @@ fn make_a(rt: &impl Print) -> io::Result<()> {
 // The slots are taken; then /heel goes.
 fn remove_heel(rt: &impl Print) -> io::Result<()> {
     let mut image = with_both();
-    tell::make_file(rt, &mut image, b"/b", 40)?;
-    tell::remove(rt, &mut image, b"/heel")?;
+    tell::make_file(rt, &mut image, "/b", 40)?;
+    tell::remove(rt, &mut image, "/heel")?;
     tell::superblock(rt, &image)?;
     tell::slot(rt, &image, 0)?;
     tell::block(rt, &image, Ref(5))?;
-    tell::field(rt, b"next", &image, Ref(5))?;
+    tell::field(rt, "next", &image, Ref(5))?;
     tell::block(rt, &image, Ref(13))?;
-    tell::field(rt, b"next", &image, Ref(13))
+    tell::field(rt, "next", &image, Ref(13))
 }
 
 // What /heel left is used again: a new object in slot 0.
-fn make_after(rt: &impl Print, path: &[u8], room: u64) -> io::Result<()> {
+fn make_after(rt: &impl Print, path: &str, room: u64) -> io::Result<()> {
     let mut image = without_heel();
     tell::make_file(rt, &mut image, path, room)?;
     tell::superblock(rt, &image)?;
     tell::slot(rt, &image, 0)?;
-    tell::check(rt, b"what is made", &image)
+    tell::check(rt, "what is made", &image)
 }
 
 fn make_b(rt: &impl Print) -> io::Result<()> {
-    make_after(rt, b"/b", 40)?;
-    make_after(rt, b"/b", 41)?;
-    make_after(rt, b"/b", 56)?;
-    make_after(rt, b"/b", 57)?;
+    for room in [40, 41, 56, 57] {
+        make_after(rt, "/b", room)?;
+    }
     make_after(
         rt,
-        b"/0123456789abcdef0123456789abcdef0123456789abcdef0123456789abcdef",
+        "/0123456789abcdef0123456789abcdef0123456789abcdef0123456789abcdef",
         24,
     )
 }
@@ -123,15 +122,15 @@ fn format_others(rt: &impl Print) -> io::Result<()> {
 
 fn write_28(rt: &impl Print) -> io::Result<()> {
     let mut image = with_heel();
-    tell::write(rt, &mut image, b"/heel", 28, b"\x01\x02\x03\x04")?;
-    tell::field(rt, b"file size", &image, Ref(5))?;
-    tell::read_32(rt, &image, b"/heel")
+    tell::write(rt, &mut image, "/heel", 28, b"\x01\x02\x03\x04")?;
+    tell::field(rt, "file size", &image, Ref(5))?;
+    tell::read_32(rt, &image, "/heel")
 }
 
 fn write_heel(rt: &impl Print, position: u64, bytes: &[u8]) -> io::Result<()> {
     let mut image = with_heel();
-    tell::write(rt, &mut image, b"/heel", position, bytes)?;
-    tell::field(rt, b"file size", &image, Ref(5))
+    tell::write(rt, &mut image, "/heel", position, bytes)?;
+    tell::field(rt, "file size", &image, Ref(5))
 }
 
 fn writes(rt: &impl Print) -> io::Result<()> {
@@ -147,32 +146,32 @@ fn writes(rt: &impl Print) -> io::Result<()> {
 fn largest_points(rt: &impl Print) -> io::Result<()> {
     let mut image = [7u8; 65648];
     tell::format(rt, &mut image, 1)?;
-    tell::make_file(rt, &mut image, b"/a", 65536)?;
-    tell::set_length(rt, &mut image, b"/a", 65536)?;
-    tell::write(rt, &mut image, b"/a", 65512, b"abcdefghijklmnopqrstuvwx")?;
-    tell::point(rt, &image, b"/a", 4096)?;
-    tell::point(rt, &image, b"/a", 4097)?;
-    tell::point(rt, &image, b"/a", 0)
+    tell::make_file(rt, &mut image, "/a", 65536)?;
+    tell::set_length(rt, &mut image, "/a", 65536)?;
+    tell::write(rt, &mut image, "/a", 65512, b"abcdefghijklmnopqrstuvwx")?;
+    tell::point(rt, &image, "/a", 4096)?;
+    tell::point(rt, &image, "/a", 4097)?;
+    tell::point(rt, &image, "/a", 0)
 }
 
 // A file of 40 bytes: letters and digits.
 fn points_of_40(rt: &impl Print) -> io::Result<()> {
     let mut image = formatted();
-    tell::make_file(rt, &mut image, b"/heel", 40)?;
+    tell::make_file(rt, &mut image, "/heel", 40)?;
     tell::write(
         rt,
         &mut image,
-        b"/heel",
+        "/heel",
         0,
         b"abcdefghijklmnopqrstuvwxyz0123456789ABCD",
     )?;
-    tell::point(rt, &image, b"/heel", 2)?;
-    tell::point(rt, &image, b"/heel", 3)
+    tell::point(rt, &image, "/heel", 2)?;
+    tell::point(rt, &image, "/heel", 3)
 }
 
 // ---- paths that are not valid: every call answers 2
 
-fn refused_path(rt: &impl Print, path: &[u8]) -> io::Result<()> {
+fn refused_path(rt: &impl Print, path: &str) -> io::Result<()> {
     let mut image = with_both();
     tell::find(rt, &image, path)?;
     tell::read_32(rt, &image, path)?;
@@ -185,11 +184,10 @@ fn refused_path(rt: &impl Print, path: &[u8]) -> io::Result<()> {
 }
 
 fn paths(rt: &impl Print) -> io::Result<()> {
-    refused_path(rt, b"")?;
-    refused_path(rt, b"/a/")?;
-    refused_path(rt, b"//")?;
-    refused_path(rt, b"a")?;
-    refused_path(rt, b"/..")
+    for path in ["", "/a/", "//", "a", "/.."] {
+        refused_path(rt, path)?;
+    }
+    Ok(())
 }
 
 // ---- the detached pair
@@ -206,15 +204,15 @@ fn set_directory(image: &mut [u8; 256], at: usize, parent: Ref, name: Ref, objec
 // The directories /a at 5, its name at 7, and /b at 8, its name at 10; then each is in the other's slot, and the root is empty.
 fn detached(rt: &impl Print) -> io::Result<()> {
     let mut image = formatted();
-    tell::make_directory(rt, &mut image, b"/a", 1)?;
-    tell::make_directory(rt, &mut image, b"/b", 1)?;
+    tell::make_directory(rt, &mut image, "/a", 1)?;
+    tell::make_directory(rt, &mut image, "/b", 1)?;
     tell::slot(rt, &image, 0)?;
     tell::slot(rt, &image, 1)?;
-    tell::check(rt, b"two directories", &image)?;
+    tell::check(rt, "two directories", &image)?;
     storage::zero(&mut image, Offset(48), 32);
     set_directory(&mut image, 88, Ref(8), Ref(10), Ref(8));
     set_directory(&mut image, 136, Ref(5), Ref(7), Ref(5));
-    tell::check(rt, b"the detached pair", &image)
+    tell::check(rt, "the detached pair", &image)
 }
 
 fn main(rt: HostRuntime) -> io::Result<()> {

@@ -1,163 +1,121 @@
 // A call, and the line with what it answers; a part of an image, and its line.
 
-ghost use Rattle.std.specs.Prelude.{◌+◌, ◌≤◌, ◌<◌, length, ◌≡◌};
+ghost use Rattle.std.specs.Prelude.{◌≤◌, ◌<◌, length, ◌≡◌};
 ghost use Rattle.changes.specs.Changing as changing;
 
 use calls::reading;
-use calls::refusal::Refusal;
-use show::{say, say_number, say_path, say_refusal};
-use std::io;
+use show::text::{Answer, Hex};
+use std::{fmt, io};
 use storage::{Offset, Ref};
 
-// The end of a line: what the call answers.
-fn end(rt: &impl Print, r: Refusal) -> io::Result<()> {
-    say_refusal(rt, r)?;
-    say(rt, b"\n")
-}
+// Bytes in hex, eight to a word.
+#[derive(Clone, Copy)]
+struct Words<'a>(&'a [u8]);
 
-// The same, and a ref.
-fn end_at(rt: &impl Print, r: Refusal, at: Ref) -> io::Result<()> {
-    say_refusal(rt, r)?;
-    say_number(rt, b", ref ", at.0)?;
-    say(rt, b"\n")
-}
-
-// Eight bytes in hex.
-fn say_word(rt: &impl Print, bytes: &[u8], at: usize) -> io::Result<()>
-    requires { at + 8 ≤ length bytes.now }
-{
-    say(rt, b" ")?;
-    let word = storage::read_u64(bytes, Offset(at));
-    print!(rt; "{word:016x}")
-}
-
-// Both words of a point.
-fn say_point(rt: &impl Print, bytes: &[u8; 16]) -> io::Result<()> {
-    say_word(rt, bytes, 0)?;
-    say_word(rt, bytes, 8)
-}
-
-// Four letters.
-fn say_magic(rt: &impl Print, image: &[u8], at: usize) -> io::Result<()>
-    requires { at + 4 ≤ length image.now }
-{
-    let to = at + 4;
-    say(rt, &image[at..to])
+impl fmt::Display for Words<'_> {
+    fn fmt<W: fmt::Write>(&self, f: &mut fmt::Formatter<W>) -> fmt::Result {
+        for word in self.0.chunks_exact(8) {
+            write!(f, " {}", Hex(word))?;
+        }
+        Ok(())
+    }
 }
 
 pub fn format(rt: &impl Print, image: &mut [u8], slots: u64) -> io::Result<()>
     ensures { image.new ≡ (changing.format image.old slots).image }
 {
-    let refusal = changes::format::format(image, slots);
-    say_number(rt, b"format ", image.len() as u64)?;
-    say_number(rt, b" bytes, slots ", slots)?;
-    end(rt, refusal)
+    let answer = Answer::of(changes::format::format(image, slots));
+    let n = image.len();
+    println!(rt; "format {n} bytes, slots {slots}: {answer}")
 }
 
-pub fn check(rt: &impl Print, text: &[u8], image: &[u8; 256]) -> io::Result<()> {
-    say(rt, b"check ")?;
-    say(rt, text)?;
-    end(rt, calls::check::check(image))
+pub fn check(rt: &impl Print, text: &str, image: &[u8; 256]) -> io::Result<()> {
+    let answer = Answer::of(calls::check::check(image));
+    println!(rt; "check {text}: {answer}")
 }
 
-pub fn find(rt: &impl Print, image: &[u8], path: &[u8]) -> io::Result<()> {
-    let answer = reading::find(image, path);
-    say_path(rt, b"find ", path)?;
-    let refusal = answer.refusal;
-    let at = answer.at;
-    end_at(rt, refusal, at)
+pub fn find(rt: &impl Print, image: &[u8], path: &str) -> io::Result<()> {
+    let found = reading::find(image, path.as_bytes());
+    let answer = Answer::of(found.refusal);
+    let at = found.at.0;
+    println!(rt; "find \"{path}\": {answer}, ref {at}")
 }
 
-pub fn make_directory(rt: &impl Print, image: &mut [u8], path: &[u8], slots: u64) -> io::Result<()>
+pub fn make_directory(rt: &impl Print, image: &mut [u8], path: &str, slots: u64) -> io::Result<()>
     ensures { image.new ≡ (changing.make image.old path.now (changing.directory slots)).image }
 {
-    let answer = changes::make::directory(image, path, slots);
-    say_path(rt, b"make directory ", path)?;
-    say_number(rt, b", slots ", slots)?;
-    let refusal = answer.refusal;
-    let at = answer.at;
-    end_at(rt, refusal, at)
+    let made = changes::make::directory(image, path.as_bytes(), slots);
+    let answer = Answer::of(made.refusal);
+    let at = made.at.0;
+    println!(rt; "make directory \"{path}\", slots {slots}: {answer}, ref {at}")
 }
 
-pub fn make_file(rt: &impl Print, image: &mut [u8], path: &[u8], room: u64) -> io::Result<()>
+pub fn make_file(rt: &impl Print, image: &mut [u8], path: &str, room: u64) -> io::Result<()>
     ensures { image.new ≡ (changing.make image.old path.now (changing.file room)).image }
 {
-    let answer = changes::make::file(image, path, room);
-    say_path(rt, b"make file ", path)?;
-    say_number(rt, b", room ", room)?;
-    let refusal = answer.refusal;
-    let at = answer.at;
-    end_at(rt, refusal, at)
+    let made = changes::make::file(image, path.as_bytes(), room);
+    let answer = Answer::of(made.refusal);
+    let at = made.at.0;
+    println!(rt; "make file \"{path}\", room {room}: {answer}, ref {at}")
 }
 
-pub fn remove(rt: &impl Print, image: &mut [u8], path: &[u8]) -> io::Result<()>
+pub fn remove(rt: &impl Print, image: &mut [u8], path: &str) -> io::Result<()>
     ensures { image.new ≡ (changing.remove image.old path.now).image }
 {
-    let refusal = changes::remove::remove(image, path);
-    say_path(rt, b"remove ", path)?;
-    end(rt, refusal)
+    let answer = Answer::of(changes::remove::remove(image, path.as_bytes()));
+    println!(rt; "remove \"{path}\": {answer}")
 }
 
 pub fn write(
     rt: &impl Print,
     image: &mut [u8],
-    path: &[u8],
+    path: &str,
     position: u64,
     bytes: &[u8],
 ) -> io::Result<()>
     ensures { image.new ≡ (changing.write image.old path.now position bytes.now).image }
 {
-    let refusal = changes::bytes::write(image, path, position, bytes);
-    say_path(rt, b"write ", path)?;
-    say_number(rt, b", bytes ", bytes.len() as u64)?;
-    say_number(rt, b" at ", position)?;
-    end(rt, refusal)
+    let answer = Answer::of(changes::bytes::write(image, path.as_bytes(), position, bytes));
+    let n = bytes.len();
+    println!(rt; "write \"{path}\", bytes {n} at {position}: {answer}")
 }
 
-pub fn set_length(rt: &impl Print, image: &mut [u8], path: &[u8], size: u64) -> io::Result<()>
+pub fn set_length(rt: &impl Print, image: &mut [u8], path: &str, size: u64) -> io::Result<()>
     ensures { image.new ≡ (changing.set_length image.old path.now size).image }
 {
-    let refusal = changes::bytes::set_length(image, path, size);
-    say_path(rt, b"set length ", path)?;
-    say_number(rt, b", ", size)?;
-    end(rt, refusal)
+    let answer = Answer::of(changes::bytes::set_length(image, path.as_bytes(), size));
+    println!(rt; "set length \"{path}\", {size}: {answer}")
 }
 
 // A read of up to 32 bytes from the front on, into a buffer of bytes aa.
-pub fn read_32(rt: &impl Print, image: &[u8], path: &[u8]) -> io::Result<()> {
-    let mut buffer = [0xaau8; 32];
-    let answer = reading::read(image, path, 0, &mut buffer);
-    say_path(rt, b"read ", path)?;
-    let refusal = answer.refusal;
-    say_refusal(rt, refusal)?;
-    say_number(rt, b", count ", answer.count)?;
-    say(rt, b",")?;
-    say_word(rt, &buffer, 0)?;
-    say_word(rt, &buffer, 8)?;
-    say_word(rt, &buffer, 16)?;
-    say_word(rt, &buffer, 24)?;
-    say(rt, b"\n")
+pub fn read_32(rt: &impl Print, image: &[u8], path: &str) -> io::Result<()> {
+    let mut buffer = [0xaa; 32];
+    let read = reading::read(image, path.as_bytes(), 0, &mut buffer);
+    let answer = Answer::of(read.refusal);
+    let count = read.count;
+    println!(rt;
+        "read \"{path}\": {answer}, count {count},{}",
+        Words(&buffer)
+    )
 }
 
-pub fn point(rt: &impl Print, image: &[u8], path: &[u8], number: u64) -> io::Result<()> {
-    let answer = reading::read_point(image, path, number);
-    say_path(rt, b"read point ", path)?;
-    say_number(rt, b", ", number)?;
-    let refusal = answer.refusal;
-    say_refusal(rt, refusal)?;
-    say(rt, b",")?;
-    let bytes = answer.bytes;
-    say_point(rt, &bytes)?;
-    say(rt, b"\n")
+pub fn point(rt: &impl Print, image: &[u8], path: &str, number: u64) -> io::Result<()> {
+    let point = reading::read_point(image, path.as_bytes(), number);
+    let answer = Answer::of(point.refusal);
+    let bytes = point.bytes;
+    println!(rt;
+        "read point \"{path}\", {number}: {answer},{}",
+        Words(&bytes)
+    )
 }
 
 // The refs of the superblock.
 pub fn superblock(rt: &impl Print, image: &[u8]) -> io::Result<()>
     requires { 24 ≤ length image.now }
 {
-    say_number(rt, b"  root ", storage::read_u64(image, Offset(8)))?;
-    say_number(rt, b", first free ", storage::read_u64(image, Offset(16)))?;
-    say(rt, b"\n")
+    let root = storage::read_u64(image, Offset(8));
+    let first_free = storage::read_u64(image, Offset(16));
+    println!(rt; "  root {root}, first free {first_free}")
 }
 
 // The block at `r`: its magic, its units and its size.
@@ -165,24 +123,20 @@ pub fn block(rt: &impl Print, image: &[u8; 256], r: Ref) -> io::Result<()>
     requires { r.0 < 16 }
 {
     let from = storage::start(r).0;
-    say_number(rt, b"  ", r.0)?;
-    say(rt, b" ")?;
-    say_magic(rt, image, from)?;
-    say_number(rt, b", units ", alloc::block::units_at(image, r))?;
-    say_number(rt, b", size ", alloc::block::size_at(image, r) as u64)?;
-    say(rt, b"\n")
+    let units = alloc::block::units_at(image, r);
+    let size = alloc::block::size_at(image, r);
+    print!(rt; "  {} ", r.0)?;
+    rt.write_all(&image[from..from + 4])?;
+    println!(rt; ", units {units}, size {size}")
 }
 
 // What the data of the block at `r` begins with: the size of a file, or the next ref of a free block.
-pub fn field(rt: &impl Print, text: &[u8], image: &[u8; 256], r: Ref) -> io::Result<()>
+pub fn field(rt: &impl Print, text: &str, image: &[u8; 256], r: Ref) -> io::Result<()>
     requires { r.0 < 16 }
 {
     let from = storage::start(r).0;
-    say_number(rt, b"  ", r.0)?;
-    say(rt, b" ")?;
-    say(rt, text)?;
-    say_number(rt, b" ", storage::read_u64(image, Offset(from + 8)))?;
-    say(rt, b"\n")
+    let value = storage::read_u64(image, Offset(from + 8));
+    println!(rt; "  {} {text} {value}", r.0)
 }
 
 // The refs in slot `i` of a root with 2 slots: a name's and an object's.
@@ -190,8 +144,7 @@ pub fn slot(rt: &impl Print, image: &[u8; 256], i: usize) -> io::Result<()>
     requires { i < 2 }
 {
     let at = 48 + 16 * i;
-    say_number(rt, b"  slot ", i as u64)?;
-    say_number(rt, b": name ", storage::read_u64(image, Offset(at)))?;
-    say_number(rt, b", object ", storage::read_u64(image, Offset(at + 8)))?;
-    say(rt, b"\n")
+    let name = storage::read_u64(image, Offset(at));
+    let object = storage::read_u64(image, Offset(at + 8));
+    println!(rt; "  slot {i}: name {name}, object {object}")
 }

@@ -4,7 +4,6 @@
 
 mod rows;
 
-use show::say;
 use std::env::{Env, FillError};
 use std::rt::Files;
 use std::{fs, io, str};
@@ -16,38 +15,24 @@ fn open<R: Files>(rt: &R, path: &[u8]) -> Option<R::File> {
 }
 
 fn list_file<R: Print + Files>(rt: &R, path: &[u8]) -> io::Result<()> {
-    say(rt, b"-- ")?;
-    say(rt, path)?;
-    say(rt, b"\n")?;
+    print!(rt; "-- ")?;
+    rt.write_all(path)?;
+    println!(rt)?;
     let Some(mut file) = open(rt, path) else {
-        return say(rt, b"cannot be read\n");
+        return println!(rt; "cannot be read");
     };
     lister::run_on(rt, &mut file)
 }
 
-// An argument that is longer than 64 bytes names no file.
-fn list_argument(rt: &(impl Print + Files + Env), i: usize) -> io::Result<()> {
-    let mut path = [0u8; 64];
-    let n = rt.arg(i, &mut path).unwrap_or(0);
-    list_file(rt, &path[..n])
-}
-
-// How many arguments there are, the program's name among them.
-fn argument_count(rt: &impl Env) -> usize {
-    for n in 0..usize::MAX {
-        if let Err(FillError::NotPresent) = rt.arg(n, &mut []) {
-            return n;
-        }
-    }
-    usize::MAX
-}
-
+// Every argument after the program's name. One that is longer than 64 bytes names no file.
 fn list_arguments(rt: &(impl Print + Files + Env)) -> io::Result<()> {
-    let n = argument_count(rt);
-    let mut i: usize = 1;
-    while i < n {
-        list_argument(rt, i)?;
-        i += 1;
+    for i in 1..usize::MAX {
+        let mut path = [0u8; 64];
+        let filled = rt.arg(i, &mut path);
+        if let Err(FillError::NotPresent) = filled {
+            break;
+        }
+        list_file(rt, &path[..filled.unwrap_or(0)])?;
     }
     Ok(())
 }

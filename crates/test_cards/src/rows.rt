@@ -6,7 +6,8 @@ use calls::reading::Kind;
 use listing::lines::Line;
 use listing::rows;
 use listing::rows::Listed;
-use show::{read_full, say, say_kind, say_number, say_refusal};
+use show::read_full;
+use show::text::{Answer, Shown};
 use std::io;
 use std::rt::Files;
 use storage::Ref;
@@ -23,26 +24,21 @@ fn blank() -> [Line; 4] {
     [line; 4]
 }
 
-fn say_line(rt: &impl Print, l: Line) -> io::Result<()> {
-    let kind = l.kind;
-    say_number(rt, b"  ref ", l.at.0)?;
-    say_number(rt, b", parent ", l.parent.0)?;
-    say_number(rt, b", name ", l.name.0)?;
-    say_number(rt, b", depth ", l.depth)?;
-    say_kind(rt, kind)?;
-    say(rt, b"\n")
+fn show_line(rt: &impl Print, l: Line) -> io::Result<()> {
+    let (at, parent, name, depth) = (l.at.0, l.parent.0, l.name.0, l.depth);
+    let kind = Shown(l.kind);
+    println!(rt; "  ref {at}, parent {parent}, name {name}, depth {depth}, {kind}")
 }
 
 // The answer, and the whole row after it.
-fn say_row(rt: &impl Print, listed: Listed, row: [Line; 4]) -> io::Result<()> {
-    let refusal = listed.refusal;
-    say_refusal(rt, refusal)?;
-    say_number(rt, b", count ", listed.count)?;
-    say(rt, b"\n")?;
-    say_line(rt, row[0])?;
-    say_line(rt, row[1])?;
-    say_line(rt, row[2])?;
-    say_line(rt, row[3])
+fn show_row(rt: &impl Print, listed: Listed, row: [Line; 4]) -> io::Result<()> {
+    let answer = Answer::of(listed.refusal);
+    let count = listed.count;
+    println!(rt; ": {answer}, count {count}")?;
+    for l in row {
+        show_line(rt, l)?;
+    }
+    Ok(())
 }
 
 // The first `n` lines of the row are lent.
@@ -51,28 +47,26 @@ fn lend(rt: &impl Print, image: &[u8], n: usize) -> io::Result<()>
 {
     let mut row = blank();
     let listed = rows::list(image, &mut row[..n]);
-    say_row(rt, listed, row)
+    show_row(rt, listed, row)
 }
 
 // The card of 256 bytes in this file.
-fn show(rt: &(impl Print + Files), path: &[u8], n: usize) -> io::Result<()>
+fn show(rt: &(impl Print + Files), path: &str, n: usize) -> io::Result<()>
     requires { n ≤ 4 }
 {
     let mut image = [0u8; 256];
-    let size = match crate::open(rt, path) {
+    let size = match crate::open(rt, path.as_bytes()) {
         Some(mut file) => read_full(&mut file, &mut image)?,
         None => 0,
     };
-    say(rt, b"-- ")?;
-    say(rt, path)?;
-    say_number(rt, b" into ", n as u64)?;
+    print!(rt; "-- {path} into {n}")?;
     lend(rt, &image[..size], n)
 }
 
 // More lines than the card has, exactly as many, and too few; then a card that is refused.
 pub fn run(rt: &(impl Print + Files)) -> io::Result<()> {
-    show(rt, b"sample", 4)?;
-    show(rt, b"sample", 3)?;
-    show(rt, b"sample", 2)?;
-    show(rt, b"detached", 4)
+    show(rt, "sample", 4)?;
+    show(rt, "sample", 3)?;
+    show(rt, "sample", 2)?;
+    show(rt, "detached", 4)
 }

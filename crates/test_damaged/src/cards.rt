@@ -1,5 +1,6 @@
 // Undamaged images, a word of 8 bytes to a line: the block at ref r begins at word 2r. A block's first word is its magic and its size.
 
+use crate::changed::Change;
 use show::{DIRECTORY, FILE, FREE, NAME, SUPERBLOCK};
 
 // Formatted with 2 slots; then the file /heel with room 32 and the directory /a with 1 slot were made. 256 bytes.
@@ -39,7 +40,15 @@ pub const CARD: [u64; 32] = [
 ];
 
 // What changes on the card as /heel is removed: 5 units at ref 5 are free, and the chain goes on to 13.
-pub const REMOVED: [u64; 14] = [2, 5, 6, 0, 7, 0, 10, FREE + 72, 11, 13, 18, 0, 19, 0];
+pub const REMOVED: [Change; 7] = [
+    (2, 5),
+    (6, 0),
+    (7, 0),
+    (10, FREE + 72),
+    (11, 13),
+    (18, 0),
+    (19, 0),
+];
 
 // The directory /a/b, and no free block. 160 bytes.
 pub const NESTED: [u64; 20] = [
@@ -243,6 +252,14 @@ pub const DEEP: [u64; 110] = [
 ];
 
 // What changes there as the directories at depths 1 and 17 change places.
-pub const SWAPPED: [u64; 18] = [
-    7, 53, 11, 50, 12, 0, 13, 0, 17, 53, 103, 5, 107, 2, 108, 7, 109, 8,
+pub const SWAPPED: [Change; 9] = [
+    (7, 53),
+    (11, 50),
+    (12, 0),
+    (13, 0),
+    (17, 53),
+    (103, 5),
+    (107, 2),
+    (108, 7),
+    (109, 8),
 ];

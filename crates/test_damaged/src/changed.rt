@@ -1,20 +1,21 @@
-// The line of an image: the words of a card, then zeros, with some words changed. A change is the index of a word and the word; they stand one after
-// the other.
+// The line of an image: the words of a card, then zeros, with some words changed.
 
 ghost use Rattle.std.specs.Prelude.{◌≡◌, length};
 
 use crate::cards;
-use show::{say, say_answer, spread};
+use show::spread;
+use show::text::Answer;
 use std::io;
 use storage::Offset;
 
-// What is wrong with an image, the number and the place.
-fn show(rt: &impl Print, text: &[u8], image: &[u8]) -> io::Result<()> {
+// The index of a word, and the word that it becomes.
+pub type Change = (usize, u64);
+
+// The number and the place that the exported check tells.
+fn check(image: &[u8]) -> Answer {
     let mut place: u64 = 0;
     let number = sffs1::sffs1_check(image, &mut place);
-    say(rt, text)?;
-    say_answer(rt, number, place)?;
-    say(rt, b"\n")
+    Answer { number, place }
 }
 
 // The longest image and a unit more.
@@ -24,60 +25,66 @@ fn zeros() -> [u8; 1048592]
     [0; 1048592]
 }
 
-// The line of the first `len` bytes.
-fn show_front(rt: &impl Print, text: &[u8], image: &[u8], len: usize) -> io::Result<()> {
+// What is wrong with the first `len` bytes.
+fn show_front(rt: &impl Print, text: &str, image: &[u8], len: usize) -> io::Result<()> {
     if len <= image.len() {
-        show(rt, text, &image[..len])?;
+        println!(rt; "{text}: {}", check(&image[..len]))?;
     }
     Ok(())
 }
 
 // One change; there is none outside the image.
-fn put(image: &mut [u8], index: u64, word: u64) {
-    let n = index as usize;
-    if n < image.len() / 8 {
-        storage::write_u64(image, Offset(8 * n), word);
+fn put(image: &mut [u8], index: usize, word: u64) {
+    if index < image.len() / 8 {
+        storage::write_u64(image, Offset(8 * index), word);
     }
 }
 
 // All of them, in their order.
-fn change(image: &mut [u8], changes: &[u64]) {
-    let mut i: usize = 0;
-    while i + 1 < changes.len() {
-        put(image, changes[i], changes[i + 1]);
-        i += 2;
+fn change(image: &mut [u8], changes: &[Change]) {
+    for &(index, word) in changes {
+        put(image, index, word);
     }
+}
+
+// The line of an image of `len` bytes: the words, and rows of changes one after the other.
+fn show_changed(
+    rt: &impl Print,
+    text: &str,
+    words: &[u64],
+    rows: &[&[Change]],
+    len: usize,
+) -> io::Result<()> {
+    let mut image = zeros();
+    spread(words, &mut image);
+    for row in rows {
+        change(&mut image, row);
+    }
+    show_front(rt, text, &image, len)
 }
 
 // The line of an image of `len` bytes.
 pub fn show_words(
     rt: &impl Print,
-    text: &[u8],
+    text: &str,
     words: &[u64],
-    changes: &[u64],
+    changes: &[Change],
     len: usize,
 ) -> io::Result<()> {
-    let mut image = zeros();
-    spread(words, &mut image);
-    change(&mut image, changes);
-    show_front(rt, text, &image, len)
+    show_changed(rt, text, words, &[changes], len)
 }
 
 // The line of the card of 256 bytes.
-pub fn show_card(rt: &impl Print, text: &[u8], changes: &[u64]) -> io::Result<()> {
+pub fn show_card(rt: &impl Print, text: &str, changes: &[Change]) -> io::Result<()> {
     show_words(rt, text, &cards::CARD, changes, 256)
 }
 
 // The same with one change.
-pub fn show_one(rt: &impl Print, text: &[u8], index: u64, word: u64) -> io::Result<()> {
-    show_card(rt, text, &[index, word])
+pub fn show_one(rt: &impl Print, text: &str, index: usize, word: u64) -> io::Result<()> {
+    show_card(rt, text, &[(index, word)])
 }
 
 // The line of the card after /heel was removed.
-pub fn show_removed(rt: &impl Print, text: &[u8], changes: &[u64]) -> io::Result<()> {
-    let mut image = zeros();
-    spread(&cards::CARD, &mut image);
-    change(&mut image, &cards::REMOVED);
-    change(&mut image, changes);
-    show_front(rt, text, &image, 256)
+pub fn show_removed(rt: &impl Print, text: &str, changes: &[Change]) -> io::Result<()> {
+    show_changed(rt, text, &cards::CARD, &[&cards::REMOVED, changes], 256)
 }
