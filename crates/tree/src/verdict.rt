@@ -12,7 +12,7 @@ ghost use Rattle.tree.specs.Verdict.{breaker, or_else, unless, unbroken, block_r
 ghost use Rattle.tree.specs.Answers.{rule_number, place_of, verdict_of, Ready, ObjectAt, Asks, Computes, KeepsAll, NoneBroken};
 
 use crate::fields;
-use alloc::tiling::Tiling;
+use alloc::block::Kind;
 use alloc::{block, marks};
 use storage::Ref;
 
@@ -95,7 +95,7 @@ fn first_breaker<F: Fn(Ref) -> bool>(image: &[u8], keeps: F) -> Option<Ref>
     let mut r = Ref(2);
     let mut at = storage::start(r).0;
     while at < len {
-        if block::magic_at(image, r) != block::SFFR && !keeps(r) {
+        if !block::is(image, r, Kind::Free) && !keeps(r) {
             return Some(r);
         }
         r = block::after(image, r);
@@ -109,14 +109,13 @@ fn keeps_all(image: &[u8], marks: &[u8], root: Ref, r: Ref) -> bool
     requires { Ready image.now marks.now root.0 × ObjectAt image.now r.0 }
     ensures { result ≡ true → KeepsAll image.now root.0 r.0 }
 {
-    let magic = block::magic_at(image, r);
     if !crate::naming::keeps(marks, root, r) {
         return false;
     }
-    if magic == block::SFNA {
+    if block::is(image, r, Kind::Name) {
         return crate::names::valid(image, r);
     }
-    if magic == block::SFRE {
+    if block::is(image, r, Kind::File) {
         return crate::files::keeps(image, r);
     }
     if !crate::depth::keeps(image, marks, root, r) {
@@ -136,7 +135,7 @@ fn none_broken(image: &[u8], marks: &[u8], root: Ref) -> bool
     let mut next = alloc::chain::begin(image);
     let mut behind = false;
     while at < len {
-        if block::magic_at(image, r) == block::SFFR {
+        if block::is(image, r, Kind::Free) {
             if behind | (next.0 != r.0) {
                 return false;
             }
@@ -213,10 +212,9 @@ fn decide(image: &[u8], marks: &mut [u8]) -> Verdict
     requires { length image.now / 16 ≤ length marks.old }
     ensures { Decides image.now marks.old (verdict_of result) marks.new }
 {
-    let tiling = marks::check(image, marks);
-    match tiling {
-        Tiling::Broken(place) => kept(Rule::Tiling, Some(place)),
-        Tiling::Whole => after_tiling(image, marks),
+    match marks::check(image, marks) {
+        Err(place) => kept(Rule::Tiling, Some(place)),
+        Ok(()) => after_tiling(image, marks),
     }
 }
 

@@ -2,42 +2,41 @@
 use Rattle.tree.proofs.Rows.{block-directory}
 use Rattle.tree.proofs.Tests.{block-other, depth-other, depth_lost, depth_low, depth_deep}
 use Rattle.tree.specs.Answers.{climbed}
-use borrow.Author.Tests.{le-leb}
+use borrow.Author.Tests.{le-leb, eqb-true, eqb-false}
 use mathlib.Core.Path.{sym, ap, ◌∙◌}
 use native.Mathlib.Omega.{arith}
 use Rattle.tree.proofs.depth.keeps.Goals as goal
 
-pub magic_at-requires : goal.magic_at-requires
-magic_at-requires c = omega (arith, c.requires.1.fits)
+pub is-requires : goal.is-requires
+is-requires c = omega (arith, c.requires.1.fits)
 
-pub returns-then-magic_at-ne-SFDE : goal.returns-then-magic_at-ne-SFDE
-returns-then-magic_at-ne-SFDE c = depth-other _ _ _ _ (block-other _ _ (λ e. c.if-magic_at-ne-SFDE.true (c.magic_at.ensures ∙ e)))
+pub returns-then-not-is : goal.returns-then-not-is
+returns-then-not-is c = depth-other _ _ _ _ (block-other _ _ (eqb-false _ _ (sym c.is.ensures ∙ c.if-not-is.true)))
 
 pub climb_from-up-requires : goal.climb_from-up-requires
 climb_from-up-requires c = c.requires.0
 
 pub returns-in_default : goal.returns-in_default
 returns-in_default c =
-    depth_lost _ _ _ _ (block-directory _ _ (sym c.magic_at.ensures ∙ c.if-magic_at-ne-SFDE.false))
+    depth_lost _ _ _ _ (block-directory _ _ (eqb-true _ _ (sym c.is.ensures ∙ c.if-not-is.false)))
     (sym (ap climbed c.in_default.is) ∙ c.climb_from-up.ensures)
 
 pub returns-then-steps-le15 : goal.returns-then-steps-le15
 returns-then-steps-le15 c =
     le-leb _ _ c.if-steps-le15.true
-    ∙ depth_low _ _ _ _ (block-directory _ _ (sym c.magic_at.ensures ∙ c.if-magic_at-ne-SFDE.false)) _
+    ∙ depth_low _ _ _ _ (block-directory _ _ (eqb-true _ _ (sym c.is.ensures ∙ c.if-not-is.false))) _
     (sym (ap climbed c.in-Some.is) ∙ c.climb_from-up.ensures) c.if-steps-le15.true
 
 pub taken_count-requires : goal.taken_count-requires
 taken_count-requires c =
     record {
       standing = c.requires.1;
-      magic = sym c.magic_at.ensures
-          ∙ c.if-magic_at-ne-SFDE.false;
+      magic = eqb-true _ _ (sym c.is.ensures ∙ c.if-not-is.false);
     }
 
 pub returns-else-steps-le15 : goal.returns-else-steps-le15
 returns-else-steps-le15 c =
     depth_deep _ _ _ _ (block-directory _ _
-    (sym c.magic_at.ensures ∙ c.if-magic_at-ne-SFDE.false)) _ _
+    (eqb-true _ _ (sym c.is.ensures ∙ c.if-not-is.false))) _ _
     (sym (ap climbed c.in-Some.is) ∙ c.climb_from-up.ensures) c.if-steps-le15.false
     c.taken_count.ensures

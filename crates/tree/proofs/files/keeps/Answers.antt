@@ -1,26 +1,27 @@
 -- keeps: the two numbers of a file.
+use borrow.Author.Tests.{eqb-true, eqb-false}
 use Rattle.tree.proofs.Tests.{file_data_size, file-other, file_tested}
 use mathlib.Core.Path.{sym, ◌∙◌}
 use native.Mathlib.Omega.{arith}
 use Rattle.tree.proofs.files.keeps.Goals as goal
 
-pub magic_at-requires : goal.magic_at-requires
-magic_at-requires c = omega (arith, c.requires.fits)
+pub is-requires : goal.is-requires
+is-requires c = omega (arith, c.requires.fits)
 
-pub returns-then-magic_at-ne-SFRE : goal.returns-then-magic_at-ne-SFRE
-returns-then-magic_at-ne-SFRE c = file-other _ _ (λ e. c.if-magic_at-ne-SFRE.true (c.magic_at.ensures ∙ e))
+pub returns-then-not-is : goal.returns-then-not-is
+returns-then-not-is c = file-other _ _ (eqb-false _ _ (sym c.is.ensures ∙ c.if-not-is.true))
 
 pub size_at-room-requires : goal.size_at-room-requires
 size_at-room-requires c = omega (arith, c.requires.fits)
 
 pub overflow_sub-room : goal.overflow_sub-room
-overflow_sub-room c = omega (arith, file_data_size c.requires (sym c.magic_at.ensures ∙ c.if-magic_at-ne-SFRE.false), c.size_at-room.ensures)
+overflow_sub-room c = omega (arith, file_data_size c.requires (eqb-true _ _ (sym c.is.ensures ∙ c.if-not-is.false)), c.size_at-room.ensures)
 
 pub read_u64-used-requires : goal.read_u64-used-requires
-read_u64-used-requires c = (c.requires, omega (arith, file_data_size c.requires (sym c.magic_at.ensures ∙ c.if-magic_at-ne-SFRE.false)))
+read_u64-used-requires c = (c.requires, omega (arith, file_data_size c.requires (eqb-true _ _ (sym c.is.ensures ∙ c.if-not-is.false))))
 
 pub read_u64-chunk-requires : goal.read_u64-chunk-requires
-read_u64-chunk-requires c = (c.requires, omega (arith, file_data_size c.requires (sym c.magic_at.ensures ∙ c.if-magic_at-ne-SFRE.false)))
+read_u64-chunk-requires c = (c.requires, omega (arith, file_data_size c.requires (eqb-true _ _ (sym c.is.ensures ∙ c.if-not-is.false))))
 
 pub returns : goal.returns
-returns c = file_tested _ _ _ _ _ c.requires (sym c.magic_at.ensures ∙ c.if-magic_at-ne-SFRE.false) c.size_at-room.ensures c.read_u64-used.ensures c.read_u64-chunk.ensures
+returns c = file_tested _ _ _ _ _ c.requires (eqb-true _ _ (sym c.is.ensures ∙ c.if-not-is.false)) c.size_at-room.ensures c.read_u64-used.ensures c.read_u64-chunk.ensures

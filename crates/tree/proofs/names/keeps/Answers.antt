@@ -1,33 +1,37 @@
 -- keeps: a name by its bytes, a directory by its pairs.
+use borrow.Author.Tests.{eqb-true, eqb-false}
 use Rattle.tree.proofs.Rows.{no_slots}
 use Rattle.tree.proofs.Tests.{names-name, names-directory, names-other, block-name, block_nameless}
 use mathlib.Core.Path.{sym, ◌∙◌}
 use native.Mathlib.Omega.{arith}
 use Rattle.tree.proofs.names.keeps.Goals as goal
 
-pub magic_at-magic-requires : goal.magic_at-magic-requires
-magic_at-magic-requires c = omega (arith, c.requires.1.fits)
+pub is-requires : goal.is-requires
+is-requires c = omega (arith, c.requires.1.fits)
+
+pub is-requires-2 : goal.is-requires-2
+is-requires-2 c = omega (arith, c.requires.1.fits)
 
 pub valid-requires : goal.valid-requires
 valid-requires c = c.requires.1
 
-pub returns-then-magic-eq-SFNA : goal.returns-then-magic-eq-SFNA
-returns-then-magic-eq-SFNA c =
-    let m = sym c.magic_at-magic.ensures ∙ c.if-magic-eq-SFNA.true in
+pub returns-then-is : goal.returns-then-is
+returns-then-is c =
+    let m = eqb-true _ _ (sym c.is.ensures ∙ c.if-is.true) in
     names-name _ _ _ (block-name _ _ m) (no_slots _ _ (λ e. omega (arith, m, e))) _ c.valid.ensures
 
 pub all_distinct-requires : goal.all_distinct-requires
 all_distinct-requires c =
     record {
       tiled = c.requires.0;
-      directory = record { standing = c.requires.1; magic = sym c.magic_at-magic.ensures ∙ c.if-magic-eq-SFDE.true };
+      directory = record { standing = c.requires.1; magic = eqb-true _ _ (sym c.is-2.ensures ∙ c.if-is-2.true) };
       slots_stand = c.requires.2;
     }
 
-pub returns-then-magic-eq-SFDE : goal.returns-then-magic-eq-SFDE
-returns-then-magic-eq-SFDE c = names-directory _ _ _ (block_nameless _ _ (λ e. c.if-magic-eq-SFNA.false (c.magic_at-magic.ensures ∙ e))) _ c.all_distinct.ensures
+pub returns-then-is-2 : goal.returns-then-is-2
+returns-then-is-2 c = names-directory _ _ _ (block_nameless _ _ (eqb-false _ _ (sym c.is.ensures ∙ c.if-is.false))) _ c.all_distinct.ensures
 
 pub returns : goal.returns
 returns c =
-    names-other _ _ _ (block_nameless _ _ (λ e. c.if-magic-eq-SFNA.false (c.magic_at-magic.ensures ∙ e)))
-    (no_slots _ _ (λ e. c.if-magic-eq-SFDE.false (c.magic_at-magic.ensures ∙ e)))
+    names-other _ _ _ (block_nameless _ _ (eqb-false _ _ (sym c.is.ensures ∙ c.if-is.false)))
+    (no_slots _ _ (eqb-false _ _ (sym c.is-2.ensures ∙ c.if-is-2.false)))

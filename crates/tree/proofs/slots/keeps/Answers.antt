@@ -1,18 +1,18 @@
 -- keeps: what is no directory has no slots.
 use Rattle.tree.proofs.Rows.{no_slots}
 use Rattle.tree.specs.Rules.{slots_stand}
-use borrow.Author.Tests.{ne_eqb}
+use borrow.Author.Tests.{eqb-true, eqb-false}
 use mathlib.Core.Bool.{not}
 use mathlib.Core.Path.{sym, ap, ◌∙◌}
 use native.Mathlib.Omega.{arith}
 use Rattle.tree.proofs.slots.keeps.Goals as goal
 
-pub magic_at-requires : goal.magic_at-requires
-magic_at-requires c = omega (arith, c.requires.1.fits)
+pub is-requires : goal.is-requires
+is-requires c = omega (arith, c.requires.1.fits)
 
-pub returns-then-magic_at-ne-SFDE : goal.returns-then-magic_at-ne-SFDE
+pub returns-then-not-is : goal.returns-then-not-is
 unfolding slots_stand
-returns-then-magic_at-ne-SFDE c = ap not (ne_eqb _ _ c.if-magic_at-ne-SFDE.true) ∙ sym (ap (slots_stand _) (no_slots _ _ (λ e. c.if-magic_at-ne-SFDE.true (c.magic_at.ensures ∙ e))))
+returns-then-not-is c = ap not c.if-not-is.true ∙ sym (ap (slots_stand _) (no_slots _ _ (eqb-false _ _ (sym c.is.ensures ∙ c.if-not-is.true))))
 
 pub all_stand-requires : goal.all_stand-requires
-all_stand-requires c = (c.requires.0, record { standing = c.requires.1; magic = sym c.magic_at.ensures ∙ c.if-magic_at-ne-SFDE.false })
+all_stand-requires c = (c.requires.0, record { standing = c.requires.1; magic = eqb-true _ _ (sym c.is.ensures ∙ c.if-not-is.false) })

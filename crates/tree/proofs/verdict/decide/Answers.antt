@@ -6,13 +6,13 @@ use Rattle.tree.proofs.verdict.decide.Goals as goal
 
 pub after_tiling-requires : goal.after_tiling-requires
 after_tiling-requires c =
-    whole_fresh c.check-tiling.ensures (ap breaker c.in-Whole.is)
+    whole_fresh c.check.ensures (ap breaker c.in-Ok.is)
     c.requires
 
-pub returns-in-Broken : goal.returns-in-Broken
-returns-in-Broken c = rw c.kept.ensures (decides-broken c.check-tiling.ensures _ (ap breaker c.in-Broken.is))
+pub returns-in-Err : goal.returns-in-Err
+returns-in-Err c = rw c.kept.ensures (decides-broken c.check.ensures _ (ap breaker c.in-Err.is))
 
-pub returns-in-Whole : goal.returns-in-Whole
-returns-in-Whole c =
-    decides-after c.check-tiling.ensures (ap breaker c.in-Whole.is)
+pub returns-in-Ok : goal.returns-in-Ok
+returns-in-Ok c =
+    decides-after c.check.ensures (ap breaker c.in-Ok.is)
     c.after_tiling.ensures.is c.after_tiling.ensures.marks

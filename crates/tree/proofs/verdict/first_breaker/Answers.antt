@@ -1,21 +1,22 @@
+use borrow.Author.Tests.{eqb-true, eqb-false}
 use Rattle.alloc.proofs.Cuts.{cut_start, cut_fits}
 use Rattle.tree.proofs.Visits.{visits_start, visits_end, object_here, walks_free, walks_past, walks_broken}
 use mathlib.Core.Path.{◌∙◌, sym}
 use native.Mathlib.Omega.{arith}
 use Rattle.tree.proofs.verdict.first_breaker.Goals as goal
-use Rattle.tree.proofs.verdict.first_breaker.Goals.{else-magic_at-ne-SFFR-via-then-magic_at-ne-SFFR+else-not-keeps, else-magic_at-ne-SFFR-via-else-magic_at-ne-SFFR}
+use Rattle.tree.proofs.verdict.first_breaker.Goals.{else-not-is-via-then-not-is+else-not-keeps, else-not-is-via-else-not-is}
 
 pub loop-at-init : goal.loop-at-init
 loop-at-init g c = rw c.start-at.ensures (record { cut = cut_start c.requires.tiled; each = λ p k. visits_start p c.requires.tiled })
 
-pub magic_at-requires : goal.magic_at-requires
-magic_at-requires g c = omega (arith, c.loop-at.invariant.cut, cut_fits c.loop-at.invariant.cut (omega arith))
+pub is-requires : goal.is-requires
+is-requires g c = omega (arith, c.loop-at.invariant.cut, cut_fits c.loop-at.invariant.cut (omega arith))
 
 pub keeps-requires : goal.keeps-requires
-keeps-requires g c = c.requires.tested _ (object_here c.loop-at.invariant.cut (omega arith) (λ e. c.if-magic_at-ne-SFFR.true (c.magic_at.ensures ∙ e)))
+keeps-requires g c = c.requires.tested _ (object_here c.loop-at.invariant.cut (omega arith) (eqb-false _ _ (sym c.is.ensures ∙ c.if-not-is.true)))
 
 pub returns-then-not-keeps : goal.returns-then-not-keeps
-returns-then-not-keeps g c = walks_broken c.loop-at.r c.loop-at.invariant (omega arith) (λ e. c.if-magic_at-ne-SFFR.true (c.magic_at.ensures ∙ e)) _ c.keeps.ensures c.if-not-keeps.true
+returns-then-not-keeps g c = walks_broken c.loop-at.r c.loop-at.invariant (omega arith) (eqb-false _ _ (sym c.is.ensures ∙ c.if-not-is.true)) _ c.keeps.ensures c.if-not-keeps.true
 
 pub after-r-requires : goal.after-r-requires
 after-r-requires g c = omega (arith, c.loop-at.invariant.cut, cut_fits c.loop-at.invariant.cut (omega arith))
@@ -29,13 +30,12 @@ loop-at-smaller g c = omega (arith, c.loop-at.invariant.cut, cut_fits c.loop-at.
 pub loop-at-preserved : goal.loop-at-preserved
 loop-at-preserved g c =
     let l = c.loop-at.invariant in
-    let m = c.magic_at.ensures in
-    elim c.else-magic_at-ne-SFFR.branch [
-      | else-magic_at-ne-SFFR-via-then-magic_at-ne-SFFR+else-not-keeps w ↦
-          walks_past c.loop-at.r l (omega arith) (λ e. w.if-magic_at-ne-SFFR.true (m ∙ e)) _ w.keeps.ensures w.if-not-keeps.false _ _
+    elim c.else-not-is.branch [
+      | else-not-is-via-then-not-is+else-not-keeps w ↦
+          walks_past c.loop-at.r l (omega arith) (eqb-false _ _ (sym c.is.ensures ∙ w.if-not-is.true)) _ w.keeps.ensures w.if-not-keeps.false _ _
           c.after-r.ensures c.start-at-in-loop-at.ensures
-      | else-magic_at-ne-SFFR-via-else-magic_at-ne-SFFR w ↦
-          walks_free c.loop-at.r l (omega arith) (sym m ∙ w.if-magic_at-ne-SFFR.false) _ _ c.after-r.ensures c.start-at-in-loop-at.ensures
+      | else-not-is-via-else-not-is w ↦
+          walks_free c.loop-at.r l (omega arith) (eqb-true _ _ (sym c.is.ensures ∙ w.if-not-is.false)) _ _ c.after-r.ensures c.start-at-in-loop-at.ensures
     ]
 
 pub returns : goal.returns

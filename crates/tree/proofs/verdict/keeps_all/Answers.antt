@@ -1,12 +1,16 @@
 -- keeps_all: by the kind of the block.
+use borrow.Author.Tests.{eqb-true, eqb-false}
 use Rattle.tree.proofs.Joint.{kept-name, kept-file, kept-directory}
 use Rattle.tree.proofs.Whole.{never_true, ready-naming, ready_slots, ready_mark}
 use mathlib.Core.Path.{sym, ◌∙◌}
 use native.Mathlib.Omega.{arith}
 use Rattle.tree.proofs.verdict.keeps_all.Goals as goal
 
-pub magic_at-magic-requires : goal.magic_at-magic-requires
-magic_at-magic-requires c = omega (arith, c.requires.1.standing.fits)
+pub is-requires : goal.is-requires
+is-requires c = omega (arith, c.requires.1.standing.fits)
+
+pub is-requires-2 : goal.is-requires-2
+is-requires-2 c = omega (arith, c.requires.1.standing.fits)
 
 pub keeps-requires : goal.keeps-requires
 keeps-requires c = ready_mark c.requires.0 c.requires.1
@@ -17,22 +21,22 @@ returns-then-not-keeps c = λ e. never_true e
 pub valid-requires : goal.valid-requires
 valid-requires c = c.requires.1.standing
 
-pub returns-then-magic-eq-SFNA : goal.returns-then-magic-eq-SFNA
-returns-then-magic-eq-SFNA c = λ t.
+pub returns-then-is : goal.returns-then-is
+returns-then-is c = λ t.
     kept-name _ _ _ c.requires.1.used
     (sym c.if-not-keeps.false ∙ c.keeps.ensures ∙ ready-naming c.requires.0 c.requires.1)
-    (sym c.magic_at-magic.ensures ∙ c.if-magic-eq-SFNA.true)
+    (eqb-true _ _ (sym c.is.ensures ∙ c.if-is.true))
     (sym t ∙ c.valid.ensures)
 
-pub keeps-requires-then-magic-eq-SFRE : goal.keeps-requires-then-magic-eq-SFRE
-keeps-requires-then-magic-eq-SFRE c = c.requires.1.standing
+pub keeps-requires-then-is-2 : goal.keeps-requires-then-is-2
+keeps-requires-then-is-2 c = c.requires.1.standing
 
-pub returns-then-magic-eq-SFRE : goal.returns-then-magic-eq-SFRE
-returns-then-magic-eq-SFRE c = λ t.
+pub returns-then-is-2 : goal.returns-then-is-2
+returns-then-is-2 c = λ t.
     kept-file _ _ _ c.requires.1.used
     (sym c.if-not-keeps.false ∙ c.keeps.ensures ∙ ready-naming c.requires.0 c.requires.1)
-    (sym c.magic_at-magic.ensures ∙ c.if-magic-eq-SFRE.true)
-    (sym t ∙ c.keeps-then-magic-eq-SFRE.ensures)
+    (eqb-true _ _ (sym c.is-2.ensures ∙ c.if-is-2.true))
+    (sym t ∙ c.keeps-then-is-2.ensures)
 
 pub keeps-requires-2 : goal.keeps-requires-2
 keeps-requires-2 c = (c.requires.0.marked, c.requires.1.standing)
@@ -47,6 +51,6 @@ pub returns : goal.returns
 returns c = λ t.
     kept-directory _ _ _ c.requires.1.used
     (sym c.if-not-keeps.false ∙ c.keeps.ensures ∙ ready-naming c.requires.0 c.requires.1)
-    (λ e. c.if-magic-eq-SFRE.false (c.magic_at-magic.ensures ∙ e))
+    (eqb-false _ _ (sym c.is-2.ensures ∙ c.if-is-2.false))
     (sym c.if-not-keeps-2.false ∙ c.keeps-2.ensures)
     (sym t ∙ c.keeps-3.ensures)
