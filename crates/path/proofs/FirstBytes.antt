@@ -1,15 +1,11 @@
 -- The first byte of a character: its followers, and the range of the next one.
 use Prim.Native.Nat.{ℕ, ◌≤◌, ◌<◌}
-use mathlib.Core.Path.{◌≡◌, sym, ◌∙◌}
+use mathlib.Core.Path.{◌≡◌}
 use mathlib.Core.Bool.{Bool, true, false, cond}
 use native.Mathlib.Omega.{arith}
 use borrow.Author.Tests.{eq-eqb, ne_eqb, lt-ltb, le-ltb, le-leb, lt-leb}
-use lib.Dec.{eqb, ltb}
+use lib.Dec.{eqb}
 use Rattle.path.specs.Name.{within, followers, lowest, highest}
-
--- the number that a row of a table tells
-pub told : {r x y : ℕ} → y ≡ x → r ≡ x → r ≡ y
-told e f = f ∙ sym e
 
 -- the followers of a first byte
 module _ (b : ℕ) where
@@ -74,10 +70,3 @@ unfolding lowest
 lowest-high b =
     let P : ℕ → Type 0 = λ n. 0x80 ≤ n in
     either P (eqb b 0xe0) (omega arith) (either P (eqb b 0xf0) (omega arith) (either P (within 0xc2 0xf4 b) (omega arith) (omega arith)))
-
--- 3 at most
-pub followers-few : (b : ℕ) → followers b ≤ 3
-unfolding followers
-followers-few b =
-    let P : ℕ → Type 0 = λ n. n ≤ 3 in
-    either P (ltb b 0x80) (omega arith) (either P (ltb b 0xe0) (omega arith) (either P (ltb b 0xf0) (omega arith) (omega arith)))

@@ -1,15 +1,22 @@
 -- The steps of the pass over the bytes of a name.
-use Prim.Native.Nat.{ℕ, zero, suc, ◌-◌, ◌≤◌, ◌<◌}
+use Prim.Native.Nat.{ℕ, zero, suc, ◌+◌, ◌-◌, ◌≤◌, ◌<◌}
 use mathlib.Core.List.{List, [], ◌∷◌}
 use mathlib.Core.Path.{◌≡◌, refl, ap, sym, ◌∙◌}
-use mathlib.Core.Bool.{Bool, true, false, ◌&&◌, not, and-false}
+use mathlib.Core.Bool.{Bool, true, false, ◌&&◌, ◌||◌, cond, not, and-false}
 use native.Mathlib.Omega.{arith}
 use native.Mathlib.Numerals.{sub-one}
-use borrow.Author.Tests.{ne_eqb, leb-true, le-leb, lt-leb}
-use lib.Dec.{eqb, leb}
+use borrow.Author.Tests.{ne_eqb, le-leb, lt-leb, ltb-false}
+use lib.Dec.{eqb, ltb}
+use lib.ListN.{drop}
+use Rattle.std.specs.Prelude.{Option, Some, None}
+use Rattle.std.specs.Option.{MatchOption, unwrap_or}
+use Rattle.std.specs.List.{position_or_len}
+use Rattle.path.specs.Walk.{Walk}
+use Rattle.path.specs.declared.characters.Awaited.{Awaited}
 use Rattle.path.specs.Name.{within, forbidden, allowed, followers, lowest, highest, awaited}
-use Rattle.path.specs.Spelling.{passed, Refuses, Goes}
-use Rattle.path.proofs.FirstBytes.{takes_0, lowest-high, followers-few}
+use Rattle.path.specs.Spelling.{spelt, passed, Refuses, Goes}
+use Rattle.path.proofs.Booleans.{or_false}
+use Rattle.path.proofs.FirstBytes.{takes_0, lowest-high}
 
 -- a byte above 7F is none of the forbidden
 unforbidden : (b : ℕ) → 0x80 ≤ b → forbidden b ≡ false
@@ -36,67 +43,75 @@ unfolding awaited
 awaited-follow b zero low high h t = absurd (omega arith)
 awaited-follow b (suc k) low high h t = rw sub-one
 
--- no byte is above the greatest and below the least
-pub none_fits : (k low high : ℕ) → 0x80 ≤ low → high < low → Refuses (suc k) low high
-unfolding awaited
-none_fits k low high l h = record { high-enough = l; never = never }
-  where
-    empty : (b : ℕ) → within low high b ≡ false
-    empty b = go (leb low b) refl
-      where
-        go : (q : Bool) → leb low b ≡ q → (q && leb b high) ≡ false
-        go true e = lt-leb b high (omega (arith, leb-true low b e))
-        go false e = refl
-
-    never : (t : List ℕ) → awaited (suc k) low high t ≡ false
-    never [] = refl
-    never (b ∷ t) = rw (empty b)
-
-module _ {b k low high : ℕ} where
-  refused : {k' low' high' : ℕ} → Refuses k' low' high' → ((t : List ℕ) → passed k low high (b ∷ t) ≡ false) → Goes b k low high k' low' high'
-  refused never e = record {
-    high-enough = never.high-enough;
-    same = λ t. e t ∙ sym (ap (λ (q : Bool). allowed t && q) (never.never t) ∙ and-false (allowed t));
-    stops = λ g. e;
+module _ {b : ℕ} where
+  -- where a character begins
+  pub begins_several : {k low high : ℕ} → 0x80 ≤ b → k ≡ followers b → low ≡ lowest b → high ≡ highest b → Goes b 0 0x80 0xbf k low high
+  begins_several h f g i = record {
+    high-enough = omega (arith, lowest-high b);
+    same = λ t. rw (allowed_cons false b (unforbidden b h) t, awaited_begin b 0 0x80 0xbf refl t, f, g, i);
   }
 
-  -- where no follower is to come
-  module _ (e : k ≡ 0) where
-    pub goes_several : {k' low' high' : ℕ} → 0x80 ≤ b → k' ≡ followers b → low' ≡ lowest b → high' ≡ highest b → Goes b k low high k' low' high'
-    goes_several h f g i = record {
-      high-enough = omega (arith, lowest-high b);
-      same = λ t. rw (allowed_cons false b (unforbidden b h) t, awaited_begin b k low high e t, f, g, i);
-      stops = λ j. absurd (omega (arith, followers-few b));
-    }
+  pub begins_alone : b < 0x80 → forbidden b ≡ false → Goes b 0 0x80 0xbf 0 0x80 0xbf
+  begins_alone h f = record {
+    high-enough = omega arith;
+    same = λ t. rw (allowed_cons false b f t, awaited_begin b 0 0x80 0xbf refl t, takes_0 b h, whole (lowest b) (highest b) 0x80 0xbf t);
+  }
 
-    pub goes_alone : 0x80 ≤ low → b < 0x80 → forbidden b ≡ false → Goes b k low high k low high
-    goes_alone l h f = record {
-      high-enough = l;
-      same = λ t. rw (allowed_cons false b f t, awaited_begin b k low high e t, takes_0 b h, e, whole (lowest b) (highest b) low high t);
-      stops = λ j. absurd (omega arith);
-    }
+  pub begins_forbidden : forbidden b ≡ true → Refuses b 0 0x80 0xbf
+  begins_forbidden f = record { never = λ t. rw (allowed_cons true b f t) }
 
-    pub goes_forbidden : {k' low' high' : ℕ} → Refuses k' low' high' → forbidden b ≡ true → Goes b k low high k' low' high'
-    goes_forbidden never f = refused never (λ t. rw (allowed_cons true b f t))
+-- where no follower is to come, it is the same in which range
+pub begins : (b k low high : ℕ) → k ≡ 0 → (r : Option Awaited) → MatchOption r (Refuses b 0 0x80 0xbf) (λ n. Goes b 0 0x80 0xbf n.left n.low n.high)
+    → MatchOption r (Refuses b k low high) (λ n. Goes b k low high n.left n.low n.high)
+begins b k low high e None h = record { never = λ t. rw (e, whole low high 0x80 0xbf (b ∷ t)) (h.never t) }
+begins b k low high e (Some n) h = record { high-enough = h.high-enough; same = λ t. rw (e, whole low high 0x80 0xbf (b ∷ t)) (h.same t) }
 
-  -- where one is to come
-  module _ (s : 0 < k) where
-    pub goes_low : {k' low' high' : ℕ} → Refuses k' low' high' → b < low → Goes b k low high k' low' high'
-    goes_low never h = refused never (λ t. rw (awaited-follow b k low high s t, lt-leb low b h) (and-false (allowed (b ∷ t))))
+-- where one is to come
+module _ {b k low high : ℕ} (s : 0 < k) where
+  pub follows_low : b < low → Refuses b k low high
+  follows_low h = record { never = λ t. rw (awaited-follow b k low high s t, lt-leb low b h) (and-false (allowed (b ∷ t))) }
 
-    pub goes_high : {k' low' high' : ℕ} → Refuses k' low' high' → low ≤ b → high < b → Goes b k low high k' low' high'
-    goes_high never l h =
-        refused never (λ t. rw (awaited-follow b k low high s t, le-leb low b l, lt-leb b high h) (and-false (allowed (b ∷ t))))
+  pub follows_high : low ≤ b → high < b → Refuses b k low high
+  follows_high l h = record { never = λ t. rw (awaited-follow b k low high s t, le-leb low b l, lt-leb b high h) (and-false (allowed (b ∷ t))) }
 
-    pub goes_on : k ≤ 3 → 0x80 ≤ low → low ≤ b → b ≤ high → Goes b k low high (k - 1) 0x80 0xbf
-    goes_on few g l h = record {
-      high-enough = omega arith;
-      same = λ t. rw (allowed_cons false b (unforbidden b (omega arith)) t, awaited-follow b k low high s t, le-leb low b l, le-leb b high h);
-      stops = λ j. absurd (omega arith);
-    }
+  pub follows : 0x80 ≤ low → low ≤ b → b ≤ high → Goes b k low high (k - 1) 0x80 0xbf
+  follows g l h = record {
+    high-enough = omega arith;
+    same = λ t. rw (allowed_cons false b (unforbidden b (omega arith)) t, awaited-follow b k low high s t, le-leb low b l, le-leb b high h);
+  }
 
 -- where no byte is left
 pub passed-end : (k low high : ℕ) → eqb k 0 ≡ passed k low high []
 unfolding allowed awaited
 passed-end zero low high = refl
 passed-end (suc k) low high = ne_eqb (suc k) 0 (λ e. omega arith)
+
+-- ---- the bytes in front that stand alone
+
+-- the byte does not stand alone
+abbrev pub other : ℕ → Bool
+other b = ltb 0x7f b || forbidden b
+
+-- the first byte that does not, and what position answers of it
+pub plain_walk : (s : List ℕ) → Walk s (spelt s) spelt (position_or_len other s)
+plain_walk [] = record { inside = omega arith; same = refl }
+plain_walk (b ∷ s) = go (other b) refl (plain_walk s)
+  where
+    go : (q : Bool) → other b ≡ q → Walk s (spelt s) spelt (position_or_len other s)
+        → Walk (b ∷ s) (spelt (b ∷ s)) spelt (cond (not q) (1 + position_or_len other s) 0)
+    go true e w = record { inside = omega arith; same = refl }
+    go false e w =
+        let parts : (ltb 0x7f b ≡ false) × (forbidden b ≡ false) = or_false _ _ e in
+        let h : b ≤ 0x7f = ltb-false 0x7f b parts.0 in
+        let n : 1 + position_or_len other s ≡ suc (position_or_len other s) = omega arith in
+        record {
+          inside = omega (arith, w.inside);
+          same = (begins_alone (omega arith) parts.1).same s ∙ w.same ∙ ap (λ (k : ℕ). spelt (drop k (b ∷ s))) (sym n);
+        }
+
+pub position-or : (m n : ℕ) → n ≤ m → unwrap_or (cond (ltb n m) (Some n) None) m ≡ n
+position-or m n h = go (ltb n m) refl
+  where
+    go : (q : Bool) → ltb n m ≡ q → unwrap_or (cond q (Some n) None) m ≡ n
+    go true e = refl
+    go false e = let k : m ≤ n = ltb-false n m e in omega arith

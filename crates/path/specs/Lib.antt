@@ -4,4 +4,3 @@ pub mod Path
 pub mod Valid
 pub mod Walk
 pub mod Spelling
-pub mod Bounds

@@ -1,5 +1,5 @@
 -- The steps of the one pass over the bytes of a name.
-use Rattle.std.specs.Prelude.{ℕ, ◌≤◌, ◌<◌, List, ◌∷◌, ◌≡◌, Bool, false, ◌&&◌}
+use Rattle.std.specs.Prelude.{ℕ, ◌≤◌, List, ◌∷◌, ◌≡◌, Bool, false, ◌&&◌}
 use Rattle.path.specs.Name.{allowed, awaited, encoded}
 
 -- no byte is forbidden, and the bytes are UTF-8
@@ -10,13 +10,11 @@ spelt s = allowed s && encoded s
 abbrev pub passed : ℕ → ℕ → ℕ → List ℕ → Bool
 passed k low high s = allowed s && awaited k low high s
 
--- what is to come cannot come
-pub record Refuses (k low high : ℕ) : Type 0 where
-  pub high-enough : 0x80 ≤ low
-  pub never : (t : List ℕ) → awaited k low high t ≡ false
+-- the byte b cannot stand where so much was to come
+pub record Refuses (b k low high : ℕ) : Type 0 where
+  pub never : (t : List ℕ) → passed k low high (b ∷ t) ≡ false
 
--- behind the byte b, where so much was to come, is so much to come; above 3 where b cannot stand there
+-- behind the byte b, where so much was to come, is so much to come
 pub record Goes (b k low high k' low' high' : ℕ) : Type 0 where
   pub high-enough : 0x80 ≤ low'
   pub same : (t : List ℕ) → passed k low high (b ∷ t) ≡ passed k' low' high' t
-  pub stops : 3 < k' → (t : List ℕ) → passed k low high (b ∷ t) ≡ false

@@ -1,6 +1,7 @@
 // The characters of a name: UTF-8 by RFC 3629, and none of the forbidden bytes.
 
 ghost use Rattle.std.specs.Prelude.{◌≡◌, ◌≤◌};
+ghost use Rattle.std.specs.Option.{MatchOption};
 ghost use Rattle.path.specs.Name as rule;
 ghost use Rattle.path.specs.Name.{forbidden};
 ghost use Rattle.path.specs.Spelling as spec;
@@ -11,7 +12,7 @@ ghost use Rattle.path.specs.Walk.{Walk};
 fn forbidden_byte(b: u8) -> bool
     ensures { result ≡ forbidden b }
 {
-    (b == 0x00) | ((b == 0x2f) | (b == 0x5c))
+    matches!(b, 0x00 | 0x2f | 0x5c)
 }
 
 // What is to come of a character: so many followers, the next one from `low` to `high`.
@@ -22,138 +23,105 @@ struct Awaited {
     high: u8,
 }
 
+// Nothing is to come: a character begins.
+const WHOLE: Awaited = Awaited {
+    left: 0,
+    low: 0x80,
+    high: 0xbf,
+};
+
 // How many followers `b` takes as the first byte of a character.
+#[tactic(auto, unfolding(crate::specs::Name::followers))]
 fn followers(b: u8) -> u8
     ensures { result ≡ rule.followers b }
 {
-    if b < 0x80 {
-        return 0;
+    match b {
+        0x00..=0x7f => 0,
+        0x80..=0xdf => 1,
+        0xe0..=0xef => 2,
+        0xf0..=0xff => 3,
     }
-    if b < 0xe0 {
-        return 1;
-    }
-    if b < 0xf0 {
-        return 2;
-    }
-    3
 }
 
 // The least byte that may follow `b`; FF where no character of several bytes begins with `b`.
+#[tactic(auto, unfolding(crate::specs::Name::lowest))]
 fn lowest(b: u8) -> u8
     ensures { result ≡ rule.lowest b }
 {
-    if b == 0xe0 {
-        return 0xa0;
+    match b {
+        0xe0 => 0xa0,
+        0xf0 => 0x90,
+        0xc2..=0xf4 => 0x80,
+        _ => 0xff,
     }
-    if b == 0xf0 {
-        return 0x90;
-    }
-    if b < 0xc2 {
-        return 0xff;
-    }
-    if 0xf4 < b {
-        return 0xff;
-    }
-    0x80
 }
 
 // The greatest byte that may follow `b`.
+#[tactic(auto, unfolding(crate::specs::Name::highest))]
 fn highest(b: u8) -> u8
     ensures { result ≡ rule.highest b }
 {
-    if b == 0xed {
-        return 0x9f;
-    }
-    if b == 0xf4 {
-        return 0x8f;
-    }
-    0xbf
-}
-
-// Followers that no byte is, more than any character has.
-fn nothing() -> Awaited
-    ensures { Refuses result.left result.low result.high }
-{
-    Awaited {
-        left: 4,
-        low: 0xff,
-        high: 0,
+    match b {
+        0xed => 0x9f,
+        0xf4 => 0x8f,
+        _ => 0xbf,
     }
 }
 
-// What is to come after `b`, where a character begins: of `a` nothing is to come.
-fn begin(b: u8, a: Awaited) -> Awaited
-    requires { (a.left ≡ 0) × (0x80 ≤ a.low) }
-    ensures { Goes b a.left a.low a.high result.left result.low result.high }
+// What is to come after `b`, where a character begins; nothing where `b` is forbidden.
+fn begin(b: u8) -> Option<Awaited>
+    ensures { MatchOption result (Refuses b 0 0x80 0xbf) (λ n. Goes b 0 0x80 0xbf n.left n.low n.high) }
 {
-    if 0x80 <= b {
-        return Awaited {
-            left: followers(b),
-            low: lowest(b),
-            high: highest(b),
-        };
-    }
     if forbidden_byte(b) {
-        return nothing();
+        return None;
     }
-    a
+    if b < 0x80 {
+        return Some(WHOLE);
+    }
+    Some(Awaited {
+        left: followers(b),
+        low: lowest(b),
+        high: highest(b),
+    })
 }
 
-// What is to come after `b`, where `a` was to come.
-fn after(b: u8, a: Awaited) -> Awaited
-    requires { (a.left ≤ 3) × (0x80 ≤ a.low) }
-    ensures { Goes b a.left a.low a.high result.left result.low result.high }
+// What is to come after `b`, where `a` was to come; nothing where `b` cannot stand there.
+fn after(b: u8, a: Awaited) -> Option<Awaited>
+    requires { 0x80 ≤ a.low }
+    ensures { MatchOption result (Refuses b a.left a.low a.high) (λ n. Goes b a.left a.low a.high n.left n.low n.high) }
 {
     if a.left == 0 {
-        return begin(b, a);
+        return begin(b);
     }
-    if b < a.low {
-        return nothing();
+    if b < a.low || a.high < b {
+        return None;
     }
-    if a.high < b {
-        return nothing();
-    }
-    Awaited {
+    Some(Awaited {
         left: a.left - 1,
         low: 0x80,
         high: 0xbf,
-    }
+    })
 }
 
 // How many bytes in front stand alone: below 80, and not forbidden. In most names all do.
 fn plain(name: &[u8]) -> usize
     ensures { Walk name.now (spec.spelt name.now) spec.spelt result }
 {
-    let mut i = 0;
-    while i < name.len() {
-        let b = name[i];
-        if 0x7f < b {
-            return i;
-        }
-        if forbidden_byte(b) {
-            return i;
-        }
-        i += 1;
-    }
-    i
+    name.iter()
+        .position(|b| 0x7f < *b || forbidden_byte(*b))
+        .unwrap_or(name.len())
 }
 
 // Whether no byte of `name` is forbidden, and its bytes are UTF-8.
 pub fn spelt(name: &[u8]) -> bool
     ensures { result ≡ spec.spelt name.now }
 {
-    let mut a = Awaited {
-        left: 0,
-        low: 0x80,
-        high: 0xbf,
-    };
-    let mut i = plain(name);
-    while i < name.len() {
-        a = after(name[i], a);
-        if 3 < a.left {
+    let mut a = WHOLE;
+    for b in &name[plain(name)..] {
+        let Some(next) = after(*b, a) else {
             return false;
-        }
-        i += 1;
+        };
+        a = next;
     }
     a.left == 0
 }

@@ -1,55 +1,35 @@
-use Rattle.path.proofs.Valid.{path_empty, path-other, path-long, path_names, all_cons}
-use Rattle.path.proofs.Walk.{walk_on, walk_stop, walk_end}
+-- valid_path: the first byte, how many components there are, and each of them.
+use Rattle.std.proofs.Common.{rules, tests, arith, ◌∙◌, sym, ap, nat_eq}
+use borrow.Author.Tests.{lt-ltb}
+use Rattle.std.proofs.lemmas.Iterator.Search.{all_from_yields_List}
+use Rattle.std.proofs.lemmas.Iterator.Splits.{YieldsList-from_slice_split}
+use Rattle.std.specs.List.{list_all}
 use Rattle.path.specs.Name.{valid_name}
 use Rattle.path.specs.Path.{all_valid}
-use mathlib.Core.Bool.{true, false}
-use mathlib.Core.List.{[]}
-use mathlib.Core.Path.{ap, sym, ◌∙◌}
-use native.Mathlib.Omega.{arith}
+use Rattle.path.proofs.Parts.{components_none, parts-behind}
+use Rattle.path.proofs.Valid.{path_empty, path-other, path-long, path_names, all-names}
 use Rattle.path.proofs.valid_path.Goals as goal
 
-pub returns-then-path-eq0 : goal.returns-then-path-eq0
-returns-then-path-eq0 c = path_empty _ (omega arith)
-
-pub bounds-path-0 : goal.bounds-path-0
-bounds-path-0 c = omega arith
+pub returns-then-is_empty : goal.returns-then-is_empty
+returns-then-is_empty c = path_empty _ (search rules)
 
 pub returns-then-path-ne47 : goal.returns-then-path-ne47
-returns-then-path-ne47 c = path-other _ (omega arith) c.if-path-ne47.true
-
-pub count-n-requires : goal.count-n-requires
-count-n-requires c = tt
+returns-then-path-ne47 c = path-other _ (search rules) c.if-path-ne47.true
 
 pub returns-then-n-gt16 : goal.returns-then-n-gt16
-returns-then-n-gt16 c = path-long _ (omega arith) c.if-path-ne47.false (omega arith)
+returns-then-n-gt16 c = path-long _ (search rules) c.if-path-ne47.false (omega arith)
 
-pub loop-i-init : goal.loop-i-init
-loop-i-init c = record { inside = omega arith; same = path_names _ (omega arith) c.if-path-ne47.false (omega arith) }
-
-pub component-requires : goal.component-requires
-component-requires c = tt
-
-pub valid_name-requires : goal.valid_name-requires
-valid_name-requires c = tt
-
-pub returns-then-not-valid_name : goal.returns-then-not-valid_name
-returns-then-not-valid_name c =
-    walk_stop c.loop-i.invariant [] false (omega arith)
-    (all_cons false _
-    (sym c.if-not-valid_name.true ∙ c.valid_name.ensures ∙ ap valid_name c.component.ensures))
-
-pub overflow_add-i : goal.overflow_add-i
-overflow_add-i c = omega arith
-
-pub loop-i-smaller : goal.loop-i-smaller
-loop-i-smaller c = omega arith
-
-pub loop-i-preserved : goal.loop-i-preserved
-loop-i-preserved c =
-    walk_on c.loop-i.invariant [] all_valid (omega arith)
-    (all_cons true _
-    (sym c.if-not-valid_name.false ∙ c.valid_name.ensures ∙ ap valid_name c.component.ensures))
-
-pub returns : goal.returns
+pub returns-then-path-lt2 : goal.returns-then-path-lt2
 unfolding all_valid
-returns c = walk_end c.loop-i.invariant [] (omega arith)
+returns-then-path-lt2 c =
+    let p = c.args.path.now in
+    lt-ltb _ 2 (omega arith) ∙ sym (path_names p (search rules) c.if-path-ne47.false (omega arith) ∙ ap all_valid (components_none p (omega arith)))
+
+pub returns-else-path-lt2 : goal.returns-else-path-lt2
+returns-else-path-lt2 c =
+    all_from_yields_List valid_name _ _ _ c.all.ensures.ran
+    (YieldsList-from_slice_split _ (λ b. nat_eq b 0x2f) _ c.split.ensures.rest c.split.ensures.done c.split.ensures.closure (λ x b q k. search (rules, tests)))
+    (λ x b q k. search (rules, tests))
+    ∙ ap (list_all valid_name) (parts-behind _ (omega arith))
+    ∙ all-names _
+    ∙ sym (path_names _ (omega arith) c.if-path-ne47.false (omega arith))

@@ -1,15 +1,13 @@
 -- begin: a byte above 7F has followers, and one below stands alone, if it is allowed.
-use Rattle.path.proofs.Spelling.{goes_several, goes_alone, goes_forbidden}
-use mathlib.Core.Path.{sym, ◌∙◌}
-use native.Mathlib.Omega.{arith}
+use Rattle.std.proofs.Common.{sym, ◌∙◌}
+use Rattle.path.proofs.Spelling.{begins_several, begins_alone, begins_forbidden}
 use Rattle.path.proofs.characters.begin.Goals as goal
 
-pub returns-then-b-ge128 : goal.returns-then-b-ge128
-returns-then-b-ge128 c =
-    goes_several (omega arith) (omega arith) c.followers.ensures c.lowest.ensures c.highest.ensures
-
 pub returns-then-forbidden_byte : goal.returns-then-forbidden_byte
-returns-then-forbidden_byte c = goes_forbidden (omega arith) c.nothing.ensures (sym c.forbidden_byte.ensures ∙ c.if-forbidden_byte.true)
+returns-then-forbidden_byte c = begins_forbidden (sym c.forbidden_byte.ensures ∙ c.if-forbidden_byte.true)
+
+pub returns-then-b-lt128 : goal.returns-then-b-lt128
+returns-then-b-lt128 c = begins_alone c.if-b-lt128.true (sym c.forbidden_byte.ensures ∙ c.if-forbidden_byte.false)
 
 pub returns : goal.returns
-returns c = goes_alone (omega arith) (omega arith) (omega arith) (sym c.forbidden_byte.ensures ∙ c.if-forbidden_byte.false)
+returns c = begins_several c.if-b-lt128.false c.followers.ensures c.lowest.ensures c.highest.ensures
