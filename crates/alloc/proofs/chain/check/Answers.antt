@@ -1,3 +1,4 @@
+-- check: one step of the pass for each block.
 use Rattle.alloc.proofs.Links.{links-start, links_end, links-other, links-broken, links-free}
 use Rattle.alloc.proofs.Walking.{walk_starts, passed, passed_all}
 use borrow.Author.Tests.{eqb-true, eqb-false}

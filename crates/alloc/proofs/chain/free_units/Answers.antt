@@ -1,3 +1,4 @@
+-- free_units: one block counted in each turn.
 use Rattle.alloc.proofs.Lookups.{counts_start, counts_on, counts_end}
 use Rattle.alloc.proofs.Walking.{walk_starts, passed, passed_all}
 use mathlib.Core.Path.{refl}

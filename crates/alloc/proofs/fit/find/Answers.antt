@@ -1,3 +1,4 @@
+-- find: one free block held against the best in each turn.
 use Rattle.alloc.proofs.Fits.{seeks_start, seeks_end, seeks_on}
 use Rattle.alloc.proofs.FreeWalks.{gaps_start, met, met_all, comes_sees, comes_link}
 use Rattle.alloc.specs.Answers.{fit_of}

@@ -1,3 +1,4 @@
+-- largest_free: one free block counted in each turn.
 use Rattle.alloc.proofs.Fits.{scans_start, scans_end, scans_on}
 use Rattle.alloc.proofs.FreeWalks.{gaps_start, met, met_all, comes_sees}
 use Rattle.alloc.proofs.pair.largest_free.Goals as goal

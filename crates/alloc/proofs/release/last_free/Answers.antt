@@ -1,3 +1,4 @@
+-- last_free: the free blocks up to the block.
 use Rattle.alloc.proofs.FreeWalks.{gaps_start, met, met_all, comes_at}
 use Rattle.alloc.proofs.Plans.{Trails, trails_start, trails_on, trails_far, trails_end}
 use Prim.Native.Nat.{ℕ}
