@@ -1,3 +1,4 @@
+-- check: one block judged and marked in each turn.
 use Rattle.alloc.proofs.Marking.{marks-start, marks_on, blank-long, marking_length, marking_long, marking_broken, marking_whole}
 use Rattle.alloc.proofs.Tiles.{tiles_fits}
 use mathlib.Core.Path.{◌∙◌, sym, refl}

@@ -10,10 +10,10 @@ pub returns-then-first-more : goal.returns-then-first-more
 returns-then-first-more c =
     let more : c.max-more.result ≡ max c.args.a c.args.b = grind (arith, common_steps) in
     let less : c.min-less.result ≡ min c.args.a c.args.b = grind (arith, common_steps) in
-    decides_none c.largest_free-l.ensures _ _ more less (omega arith)
+    decides_none c.largest_free-first.ensures _ _ more less (omega arith)
 
 pub returns : goal.returns
 returns c =
     let more : c.max-more.result ≡ max c.args.a c.args.b = grind (arith, common_steps) in
     let less : c.min-less.result ≡ min c.args.a c.args.b = grind (arith, common_steps) in
-    decides_some c.largest_free-l.ensures _ _ more less (omega arith)
+    decides_some c.largest_free-first.ensures _ _ more less (omega arith)

@@ -1,37 +1,20 @@
-use Rattle.alloc.proofs.Cuts.{tiled-long}
-use Rattle.alloc.proofs.Fits.{scans_start, scans_end, scans_on, scans_less, seen_inside}
-use Rattle.alloc.proofs.Soundness.{sound-tiled}
-use native.Mathlib.Omega.{arith}
+-- largest_free: one free block counted in each turn.
+use Rattle.alloc.proofs.Fits.{scans_start, scans_end, scans_on}
+use Rattle.alloc.proofs.FreeWalks.{gaps_start, met, met_all, comes_sees}
 use Rattle.alloc.proofs.pair.largest_free.Goals as goal
 
-pub data_start-requires : goal.data_start-requires
-data_start-requires c = omega arith
+pub loop-gap-init : goal.loop-gap-init
+loop-gap-init c =
+    let w = gaps_start c.gaps-gap-items.ensures c.into_iter-gap-iterator.ensures.into_iter_gives in
+    record { walk = w.0; scans = scans_start c.requires w.2.reads }
 
-pub read_ref-at-requires : goal.read_ref-at-requires
-read_ref-at-requires c = omega (arith, c.data_start.ensures, tiled-long (sound-tiled c.requires))
-
-pub loop-at-init : goal.loop-at-init
-loop-at-init c = scans_start c.requires c.data_start.ensures c.read_ref-at.ensures
-
-pub free_units_at-requires : goal.free_units_at-requires
-free_units_at-requires c = omega (arith, seen_inside c.loop-at.invariant.walk (omega arith))
-
-pub with_units-found-requires : goal.with_units-found-requires
-with_units-found-requires c = omega arith
-
-pub data_start-requires-in-loop-at : goal.data_start-requires-in-loop-at
-data_start-requires-in-loop-at c = omega (arith, seen_inside c.loop-at.invariant.walk (omega arith))
-
-pub read_ref-at-requires-in-loop-at : goal.read_ref-at-requires-in-loop-at
-read_ref-at-requires-in-loop-at c = omega (arith, seen_inside c.loop-at.invariant.walk (omega arith), c.data_start-in-loop-at.ensures)
-
-pub loop-at-smaller : goal.loop-at-smaller
-loop-at-smaller c = scans_less c.loop-at.invariant (omega arith) (record { room = c.free_units_at.ensures.is; inner = c.data_start-in-loop-at.ensures; reads = c.read_ref-at-in-loop-at.ensures })
-
-pub loop-at-preserved : goal.loop-at-preserved
-loop-at-preserved c =
-    scans_on c.loop-at.invariant (omega arith) (record { room = c.free_units_at.ensures.is; inner = c.data_start-in-loop-at.ensures; reads = c.read_ref-at-in-loop-at.ensures })
-    _ _ c.with_units-found.ensures.0 c.with_units-found.ensures.1
+pub loop-gap-preserved : goal.loop-gap-preserved
+loop-gap-preserved c =
+    let p = met c.loop-gap.invariant.walk c.next.new.self c.in-Some.ensures.steps in
+    record {
+      walk = p.walk;
+      scans = scans_on c.loop-gap.invariant.scans p.comes.there (comes_sees p.comes) _ _ c.with_units-found.ensures.0 c.with_units-found.ensures.1;
+    }
 
 pub returns : goal.returns
-returns c = scans_end c.loop-at.invariant (omega arith)
+returns c = scans_end c.loop-gap.invariant.scans (met_all c.loop-gap.invariant.walk c.next.new.self c.in-None.ensures.steps)

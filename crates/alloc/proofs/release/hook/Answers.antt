@@ -2,10 +2,11 @@
 use Rattle.alloc.proofs.Plans.{hook_zero, hook_pos}
 use mathlib.Core.Path.{◌∙◌}
 use native.Mathlib.Nat.{add-zero}
+use native.Mathlib.Omega.{arith}
 use Rattle.alloc.proofs.release.hook.Goals as goal
 
-pub returns-then-n-eq0 : goal.returns-then-n-eq0
-returns-then-n-eq0 c = c.data_start.ensures ∙ hook_zero _ c.if-n-eq0.true
+pub returns-then-last-gt0 : goal.returns-then-last-gt0
+returns-then-last-gt0 c = c.data_start.ensures ∙ add-zero _ ∙ hook_pos _ (λ e. omega (arith, c.if-last-gt0.true))
 
-pub returns : goal.returns
-returns c = c.data_start-2.ensures ∙ add-zero _ ∙ hook_pos _ c.if-n-eq0.false
+pub returns-else-last-gt0 : goal.returns-else-last-gt0
+returns-else-last-gt0 c = c.data_start-else-last-gt0.ensures ∙ hook_zero _ (omega (arith, c.if-last-gt0.false))

@@ -1,29 +1,34 @@
-use Rattle.alloc.proofs.Plans.{inside, hook-least, hook_pos, trails_start, trails_on, trails_rise, trails_stop}
+-- last_free: the free blocks up to the block.
+use Rattle.alloc.proofs.FreeWalks.{gaps_start, met, met_all, comes_at}
+use Rattle.alloc.proofs.Plans.{Trails, trails_start, trails_on, trails_far, trails_end}
+use Prim.Native.Nat.{ℕ}
+use mathlib.Core.Path.{◌∙◌, sym, subst}
 use native.Mathlib.Omega.{arith}
 use Rattle.alloc.proofs.release.last_free.Goals as goal
 
-pub hook-requires : goal.hook-requires
-hook-requires c = omega arith
+pub gaps-gap-items-requires : goal.gaps-gap-items-requires
+gaps-gap-items-requires c = c.requires.sound
 
-pub read_ref-next-requires : goal.read_ref-next-requires
-read_ref-next-requires c = omega (arith, c.hook.ensures, inside c.requires, hook-least 0)
+pub loop-gap-init : goal.loop-gap-init
+loop-gap-init c =
+    let w = gaps_start c.gaps-gap-items.ensures c.into_iter-gap-iterator.ensures.into_iter_gives in
+    record { walk = w.0; trails = trails_start c.requires w.2.reads }
 
-pub loop-next-init : goal.loop-next-init
-loop-next-init c = trails_start c.requires c.hook.ensures c.read_ref-next.ensures
+pub returns-then-t-gap : goal.returns-then-t-gap
+returns-then-t-gap c =
+    let w = c.loop-gap.invariant.trails in
+    let p = met c.loop-gap.invariant.walk c.next.new.self c.in-Some.ensures.steps in
+    let e = comes_at p.comes in
+    record { hooks = trails_far w p.comes.there (omega (arith, e, c.if-t-gap.true)); reads = e ∙ w.walk.reads; before = w.before }
 
-pub hook-requires-in-loop-next : goal.hook-requires-in-loop-next
-hook-requires-in-loop-next c = omega (arith, inside c.requires, trails_rise c.loop-next.invariant c.loop-next-test.true)
-
-pub read_ref-next-requires-in-loop-next : goal.read_ref-next-requires-in-loop-next
-read_ref-next-requires-in-loop-next c =
-    let r = trails_rise c.loop-next.invariant c.loop-next-test.true in
-    omega (arith, c.hook-in-loop-next.ensures, hook_pos c.loop-next.next.0 r.2, r)
-
-pub loop-next-smaller : goal.loop-next-smaller
-loop-next-smaller c = omega (arith, trails_rise c.loop-next.invariant c.loop-next-test.true)
-
-pub loop-next-preserved : goal.loop-next-preserved
-loop-next-preserved c = trails_on c.loop-next.invariant c.loop-next-test.true _ _ c.hook-in-loop-next.ensures c.read_ref-next-in-loop-next.ensures
+pub loop-gap-preserved : goal.loop-gap-preserved
+loop-gap-preserved c =
+    let p = met c.loop-gap.invariant.walk c.next.new.self c.in-Some.ensures.steps in
+    let e = comes_at p.comes in
+    record { walk = p.walk; trails = subst (λ (i : ℕ). Trails c.args.image.now c.args.t.0 i c.next.new.self.at.0) (sym e) (trails_on c.loop-gap.invariant.trails p.comes.there (omega (arith, e, c.if-t-gap.false)) p.comes.inner p.comes.reads) }
 
 pub returns : goal.returns
-returns c = record { hooks = trails_stop c.loop-next.invariant c.loop-next-test.false; reads = c.loop-next.invariant.walk.reads; before = c.loop-next.invariant.before }
+returns c =
+    let w = c.loop-gap.invariant.trails in
+    let e = met_all c.loop-gap.invariant.walk c.next.new.self c.in-None.ensures.steps in
+    record { hooks = trails_end w e; reads = sym e ∙ w.walk.reads; before = w.before }
