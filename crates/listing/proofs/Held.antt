@@ -152,14 +152,14 @@ module _ {s : List ℕ} (b : AllBytes s) {d : Node} {j n : ℕ} (o : NodeIn s d)
       pub gone_child : {x : Node} → x ≡ child_of d c → Child s d j x
       gone_child {x} y =
           subst (Child s d j) (sym y) (record {
-          there = record { object = gone_object; low = omega (arith, gone_low) };
-          deeper = refl;
-          below = omega arith;
-          parent_is = refl;
-          taken = t;
-          counted = gone_slot.0;
-          slot_is = gone_is;
-        })
+            there = record { object = gone_object; low = omega (arith, gone_low) };
+            deeper = refl;
+            below = omega arith;
+            parent_is = refl;
+            taken = t;
+            counted = gone_slot.0;
+            slot_is = gone_is;
+          })
 
 -- the lines of the slots from this one on
 module _ {s : List ℕ} {d : Node} {j : ℕ} {x : Node} (c : Child s d j x) where

@@ -6,7 +6,7 @@ use mathlib.Core.Path.{◌∙◌, ◌≡◌, ap, refl, subst, sym}
 use native.Mathlib.Omega.{arith}
 use lib.Dec.{leb}
 use lib.ListN.{drop, length, length-append, length-take, take, take-append-drop}
-use lib.Seq.{length-take-le, take_all, take-nil}
+use lib.Seq.{drop-drop, length-take-le, take_all, take-nil}
 use borrow.Author.Tests.{leb-false, leb-true}
 use Rattle.storage.specs.Bytes.{splice}
 use Rattle.storage.proofs.Splice.{length-splice, splice-append, splice-left, splice_none}
@@ -18,6 +18,11 @@ use Rattle.listing.specs.Nodes.{levels, lines_at, lines_in, own_line}
 use Rattle.listing.specs.Numbers.{Stores, StoresTo, numbers_of, seven_of}
 use Rattle.listing.proofs.Held.{count-file, held_none, own_first}
 use Rattle.history.specs.Listing.{Line}
+
+-- a part of a row that is copied over
+pub part-spliced : (s : List ℕ) (a k : ℕ) (x : List ℕ) → k ≡ length x → take a s ++ (x ++ drop k (drop a s)) ≡ splice s a x
+unfolding splice
+part-spliced s a k x e = ap (λ (v : List ℕ). take a s ++ (x ++ v)) (drop-drop k a s ∙ ap (λ (n : ℕ). drop (a + n) s) e)
 
 -- ---- rows of lines
 
@@ -109,16 +114,16 @@ module _ {n i j : ℕ} {xs ys : List Line} {m m' : List ℕ} (f : 7 * n ≤ leng
           ∙ ap (splice m (7 * i)) (sym (p ∙ ap (λ (t : ℕ). x ++ numbers_of (take t ys)) z ∙ append-nil x))
 
 -- the rows have the same room
-as_long : {n i k : ℕ} {ls : List Line} {u v m : List ℕ} → length u ≡ length v → n ≡ length v / 7 → Stores i ls u k m → StoresTo n i ls u k m
-as_long {n} {i} {k} {ls} {u} {v} {m} e f w = subst (λ (t : ℕ). StoresTo t i ls u k m) (ap (λ (t : ℕ). t / 7) e ∙ sym f) w
+as_long : (v : List ℕ) {u : List ℕ} → length u ≡ length v → {i k : ℕ} {ls : List Line} {m : List ℕ} → Stores i ls u k m → StoresTo (length v / 7) i ls u k m
+as_long v {u} e {i} {k} {ls} {m} w = subst (λ (t : ℕ). StoresTo t i ls u k m) (ap (λ (t : ℕ). t / 7) e) w
 
 -- an object: its own line, and what its slots hold
-module _ {s : List ℕ} {x : Node} {i : ℕ} {m m' : List ℕ} (v : Stores i (own_line s x ∷ []) m (i + 1) m') where
+module _ (s : List ℕ) (x : Node) {i : ℕ} {m m' : List ℕ} (v : Stores i (own_line s x ∷ []) m (i + 1) m') where
   own_lines : lines_at s x ≡ own_line s x ∷ lines_in s x 0
   own_lines = own_first (objects (volume_of s)) x.at.0 x.parent.0 x.name.0 x.depth (levels x.depth)
 
   pub stores_object : {k : ℕ} {m'' : List ℕ} → Stores (i + 1) (lines_in s x 0) m' k m'' → Stores i (lines_at s x) m k m''
-  stores_object {k} {m''} w = subst (λ (ls : List Line). Stores i ls m k m'') (sym own_lines) (stores_both (omega arith) v (as_long v.same_size refl w))
+  stores_object {k} {m''} w = subst (λ (ls : List Line). Stores i ls m k m'') (sym own_lines) (stores_both (omega arith) v (as_long m v.same_size w))
 
   -- a file: its own line alone
   pub stores_file : is_dir (block_in s x.at.0) ≡ false → Stores i (lines_at s x) m (i + 1) m'
@@ -151,7 +156,7 @@ module _ {i : ℕ} {all rest : List Line} {before : List ℕ} {at : ℕ} {now : 
 
   pub storing_on : (xs ys : List Line) → rest ≡ xs ++ ys → {k : ℕ} {m : List ℕ} → Stores at xs now k m → Storing i all ys before k m
   storing_on xs ys e v = record {
-    carry = λ u. (storing_as e).carry (stores_both (omega (arith, w.same_size)) (as_long w.same_size refl v) u);
+    carry = λ u. (storing_as e).carry (stores_both (omega (arith, w.same_size)) (as_long before w.same_size v) u);
     left = omega (arith, w.left, v.next, ap length e, length-append xs ys);
     same_size = v.same_size ∙ w.same_size;
   }
@@ -159,9 +164,9 @@ module _ {i : ℕ} {all rest : List Line} {before : List ℕ} {at : ℕ} {now : 
 -- ---- the lines of the image
 
 -- those before line n, in a row whose front has room for just them
-pub stored-first : {n : ℕ} {ls : List Line} {m : List ℕ} {k : ℕ} {m' : List ℕ} → 7 * n ≤ length m → Stores 0 ls (take (7 * n) m) k m'
+pub stored-first : (n : ℕ) (m : List ℕ) {ls : List Line} {k : ℕ} {m' : List ℕ} → 7 * n ≤ length m → Stores 0 ls (take (7 * n) m) k m'
     → m' ++ drop (7 * n) m ≡ splice m 0 (numbers_of (take n ls))
-stored-first {n} {ls} {m} {k} {m'} h w =
+stored-first n m {ls} {k} {m'} h w =
     let l : length (take (7 * n) m) ≡ 7 * n = length-take-le (7 * n) m h in
     let z : length (take (7 * n) m) / 7 - 0 ≡ n = omega arith in
     let x : List ℕ = numbers_of (take n ls) in

@@ -46,4 +46,3 @@ pub record IsRoot (s : List ℕ) (x : Node) : Type 0 where
   pub there : NodeIn s x
   pub all_lines : lines_at s x ≡ lines_of s
   pub all_from : (c : List ℕ) → lines_at_from s x c ≡ lines_from s c
-  pub depth_is : x.depth ≡ 0

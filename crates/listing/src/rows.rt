@@ -62,9 +62,9 @@ fn fill(image: &[u8], lines: &mut [Line], n: usize)
         return;
     }
     let mut ahead = Lines::new(image);
-    for i in 0..n {
-        if let Some(line) = ahead.next() {
-            lines[i] = line;
+    for line in lines[..n].iter_mut() {
+        if let Some(next) = ahead.next() {
+            *line = next;
         }
     }
 }

@@ -9,9 +9,8 @@ ghost use Rattle.listing.specs.Nodes.{lines_at, lines_in, own_line, NodeIn};
 ghost use Rattle.listing.specs.Numbers.{numbers_of, Stores};
 ghost use Rattle.history.specs.Listing.{lines_of};
 
-use crate::lines;
 use crate::lines::Node;
-use crate::numbers;
+use crate::{lines, numbers};
 use alloc::block;
 use storage::Ref;
 use tree::fields;

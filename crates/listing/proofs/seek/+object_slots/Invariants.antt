@@ -1,4 +1,4 @@
-use Rattle.std.proofs.Common.{◌*◌, ◌+◌, ◌-◌}
+use Rattle.std.proofs.Common.{◌*◌, ◌+◌}
 use Rattle.listing.proofs.Seeking.{Passing}
 use Rattle.listing.specs.Nodes.{levels}
 use Rattle.listing.proofs.seek.+object_slots.Given as goal
