@@ -43,11 +43,8 @@ fn argument_count(rt: &impl Env) -> usize {
 }
 
 fn list_arguments(rt: &(impl Print + Files + Env)) -> io::Result<()> {
-    let n = argument_count(rt);
-    let mut i: usize = 1;
-    while i < n {
+    for i in 1..argument_count(rt) {
         list_argument(rt, i)?;
-        i += 1;
     }
     Ok(())
 }

@@ -6,7 +6,7 @@ use calls::reading::Kind;
 use listing::lines::Line;
 use listing::rows;
 use listing::rows::Listed;
-use show::{read_full, say, say_kind, say_number, say_refusal};
+use show::{read_full, say, say_kind, say_refusal};
 use std::io;
 use std::rt::Files;
 use storage::Ref;
@@ -24,25 +24,22 @@ fn blank() -> [Line; 4] {
 }
 
 fn say_line(rt: &impl Print, l: Line) -> io::Result<()> {
-    let kind = l.kind;
-    say_number(rt, b"  ref ", l.at.0)?;
-    say_number(rt, b", parent ", l.parent.0)?;
-    say_number(rt, b", name ", l.name.0)?;
-    say_number(rt, b", depth ", l.depth)?;
-    say_kind(rt, kind)?;
-    say(rt, b"\n")
+    print!(rt;
+        "  ref {}, parent {}, name {}, depth {}",
+        l.at.0, l.parent.0, l.name.0, l.depth
+    )?;
+    say_kind(rt, l.kind)?;
+    println!(rt)
 }
 
 // The answer, and the whole row after it.
 fn say_row(rt: &impl Print, listed: Listed, row: [Line; 4]) -> io::Result<()> {
-    let refusal = listed.refusal;
-    say_refusal(rt, refusal)?;
-    say_number(rt, b", count ", listed.count)?;
-    say(rt, b"\n")?;
-    say_line(rt, row[0])?;
-    say_line(rt, row[1])?;
-    say_line(rt, row[2])?;
-    say_line(rt, row[3])
+    say_refusal(rt, listed.refusal)?;
+    println!(rt; ", count {}", listed.count)?;
+    for line in row {
+        say_line(rt, line)?;
+    }
+    Ok(())
 }
 
 // The first `n` lines of the row are lent.
@@ -65,7 +62,7 @@ fn show(rt: &(impl Print + Files), path: &[u8], n: usize) -> io::Result<()>
     };
     say(rt, b"-- ")?;
     say(rt, path)?;
-    say_number(rt, b" into ", n as u64)?;
+    print!(rt; " into {n}")?;
     lend(rt, &image[..size], n)
 }
 
