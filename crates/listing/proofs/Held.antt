@@ -11,13 +11,16 @@ use borrow.Author.Tests.{eq-eqb, ne_eqb}
 use Rattle.storage.proofs.Numbers.{AllBytes}
 use Rattle.alloc.specs.Block.{Block, block_of}
 use Rattle.alloc.specs.Volume.{Objects, block_at, objects, volume_of}
-use Rattle.tree.specs.Answers.{DirectoryAt}
+use Rattle.tree.specs.Answers.{DirectoryAt, slot_of}
+use Rattle.tree.specs.declared.fields.Slot as declared-slot
 use Rattle.tree.specs.Fields.{Slot, is_dir, slot_at, slots, slots_from, taken, total}
 use Rattle.tree.proofs.Rows.{slot-inside}
 use Rattle.calls.specs.Answers.{DirectoryIn, ObjectAt}
 use Rattle.calls.specs.Reading.{block_in}
 use Rattle.calls.proofs.Stands.{directory-stands, slot_here, slot-object, slot_read}
+use Rattle.listing.specs.declared.lines.Node.{Node}
 use Rattle.listing.specs.Held.{held_lines, slot_count}
+use Rattle.listing.specs.Nodes.{NodeIn, child_of, levels, lines_at, lines_in}
 use Rattle.history.specs.Listing.{Line, line_of, object_lines, slot_lines}
 
 pub pred_suc : (k : ℕ) → suc k - 1 ≡ k
@@ -99,48 +102,72 @@ unfolding slot_count
 count_all b zero h e = absurd (h refl)
 count_all b (suc k) h e = sym (rw e)
 
-module _ {s : List ℕ} (b : AllBytes s) {d : ℕ} (levels : ℕ) {j n : ℕ} (o : ObjectAt s d) (e : n ≡ slot_count levels (block_in s d)) (l : j < n) where
-  counted : (is_dir (block_in s d) ≡ true) × (0 < levels) × (slot_count levels (block_in s d) ≡ total (block_in s d))
-  counted = let h : j < slot_count levels (block_in s d) = omega arith in counted-directory levels (block_in s d) h
+-- ---- a slot that is gone through
 
-  pub gone_directory : DirectoryIn s d
-  gone_directory = record { formed = o.formed; kind = counted.0 }
+-- a node of the object that slot j names
+pub record Child (s : List ℕ) (d : Node) (j : ℕ) (x : Node) : Type 0 where
+  pub there : NodeIn s x
+  pub deeper : x.depth ≡ d.depth + 1
+  pub below : levels x.depth ≡ levels d.depth - 1
+  pub parent_is : x.parent.0 ≡ d.at.0
+  pub taken : x.at.0 ≡ 0 → ⊥
+  pub counted : j < slot_count (levels d.depth) (block_in s d.at.0)
+  pub slot_is : (x.name.0, x.at.0) ≡ slot_at (block_in s d.at.0) j
 
-  pub gone_levels : 0 < levels
-  gone_levels = counted.1
+module _ {s : List ℕ} (b : AllBytes s) {d : Node} {j n : ℕ} (o : NodeIn s d) (e : n ≡ slot_count (levels d.depth) (block_in s d.at.0)) (l : j < n) where
+  counted : (is_dir (block_in s d.at.0) ≡ true) × (0 < levels d.depth) × (slot_count (levels d.depth) (block_in s d.at.0) ≡ total (block_in s d.at.0))
+  counted = let h : j < slot_count (levels d.depth) (block_in s d.at.0) = omega arith in counted-directory (levels d.depth) (block_in s d.at.0) h
 
-  pub gone_slot : (j < slot_count levels (block_in s d)) × (j < total (block_in s d))
+  gone_directory : DirectoryIn s d.at.0
+  gone_directory = record { formed = o.object.formed; kind = counted.0 }
+
+  pub gone_low : d.depth < 16
+  gone_low = omega (arith, counted.1)
+
+  pub gone_slot : (j < slot_count (levels d.depth) (block_in s d.at.0)) × (j < total (block_in s d.at.0))
   gone_slot = omega (arith, e, counted.2)
 
-  pub gone_read : DirectoryAt s d × (j < total (block_of s d))
+  pub gone_read : DirectoryAt s d.at.0 × (j < total (block_of s d.at.0))
   gone_read = ((directory-stands b gone_directory).0, slot_here b gone_directory j gone_slot.1)
 
   pub gone_few : j < 1024
   gone_few = (slot-inside gone_read.0 j gone_read.1).1
 
   -- the slot, as it is read
-  module _ {x : Slot} (q : x ≡ slot_at (block_of s d) j) where
-    pub gone_is : x ≡ slot_at (block_in s d) j
+  module _ {c : declared-slot.Slot} (q : slot_of c ≡ slot_at (block_of s d.at.0) j) where
+    pub gone_is : slot_of c ≡ slot_at (block_in s d.at.0) j
     gone_is = slot_read b gone_directory j q
 
-    -- the object of a taken slot
-    pub gone_object : (x.1 ≡ 0 → ⊥) → ObjectAt s x.1
-    gone_object t =
-        subst (λ (y : Slot). ObjectAt s y.1) (sym gone_is)
-        (slot-object b gone_directory j gone_slot.1 (rw (ne_eqb (slot_at (block_in s d) j).1 0 (λ z. t (ap (λ (y : Slot). y.1) gone_is ∙ z)))))
+    -- an empty one holds no line
+    pub gone_empty : c.object.0 ≡ 0 → lines_in s d j ≡ lines_in s d (j + 1)
+    gone_empty = held-empty (objects (volume_of s)) d.at.0 d.depth (levels d.depth) j gone_slot.0 gone_is
 
-    -- the lines of the slots from this one on
-    module _ (depth : ℕ) where
-      pub gone_empty : x.1 ≡ 0 → held_lines levels (objects (volume_of s)) d depth j ≡ held_lines levels (objects (volume_of s)) d depth (j + 1)
-      gone_empty = held-empty (objects (volume_of s)) d depth levels j gone_slot.0 gone_is
+    -- the object of a taken one
+    module _ (t : c.object.0 ≡ 0 → ⊥) where
+      gone_object : ObjectAt s c.object.0
+      gone_object =
+          subst (λ (y : Slot). ObjectAt s y.1) (sym gone_is)
+          (slot-object b gone_directory j gone_slot.1 (rw (ne_eqb (slot_at (block_in s d.at.0) j).1 0 (λ z. t (ap (λ (y : Slot). y.1) gone_is ∙ z)))))
 
-      pub gone_taken : (x.1 ≡ 0 → ⊥)
-          → held_lines levels (objects (volume_of s)) d depth j
-          ≡ object_lines (levels - 1) (objects (volume_of s)) x.1 d x.0 (depth + 1) ++ held_lines levels (objects (volume_of s)) d depth (j + 1)
-      gone_taken = held-taken (objects (volume_of s)) d depth levels j gone_slot.0 gone_is
+      pub gone_child : {x : Node} → x ≡ child_of d c → Child s d j x
+      gone_child {x} y =
+          subst (Child s d j) (sym y) (record {
+            there = record { object = gone_object; low = omega (arith, gone_low) };
+            deeper = refl;
+            below = omega arith;
+            parent_is = refl;
+            taken = t;
+            counted = gone_slot.0;
+            slot_is = gone_is;
+          })
 
-      -- where those have room its object's have
-      pub gone_room : (x.1 ≡ 0 → ⊥) → (at m : ℕ) → at + length (held_lines levels (objects (volume_of s)) d depth j) ≤ m
-          → at + length (object_lines (levels - 1) (objects (volume_of s)) x.1 d x.0 (depth + 1)) ≤ m
-      gone_room t at m h =
-          omega (arith, ap length (gone_taken t), length-append (object_lines (levels - 1) (objects (volume_of s)) x.1 d x.0 (depth + 1)) (held_lines levels (objects (volume_of s)) d depth (j + 1)))
+-- the lines of the slots from this one on
+module _ {s : List ℕ} {d : Node} {j : ℕ} {x : Node} (c : Child s d j x) where
+  pub child-lines : lines_in s d j ≡ lines_at s x ++ lines_in s d (j + 1)
+  child-lines =
+      held-taken (objects (volume_of s)) d.at.0 d.depth (levels d.depth) j c.counted c.slot_is c.taken
+      ∙ rw (sym c.below, sym c.deeper, sym c.parent_is)
+
+  -- where those have room its object's have
+  pub child-room : (at m : ℕ) → at + length (lines_in s d j) ≤ m → at + length (lines_at s x) ≤ m
+  child-room at m h = omega (arith, ap length child-lines, length-append (lines_at s x) (lines_in s d (j + 1)))

@@ -1,36 +1,28 @@
 -- Lines as numbers, stored one after the other.
-use Prim.Native.Nat.{◌*◌, ◌+◌, ◌-◌, ◌<◌, ◌≤◌, min, suc, zero, ℕ}
+use Prim.Native.Nat.{◌*◌, ◌+◌, ◌-◌, ◌/◌, ◌<◌, ◌≤◌, min, suc, zero, ℕ}
 use mathlib.Core.Bool.{Bool, false, true}
 use mathlib.Core.List.{List, [], ◌++◌, ◌∷◌, append_assoc, append-nil}
 use mathlib.Core.Path.{◌∙◌, ◌≡◌, ap, refl, subst, sym}
 use native.Mathlib.Omega.{arith}
 use lib.Dec.{leb}
-use lib.ListN.{length, length-append, length-take, set, take}
-use lib.Seq.{take_all, take-nil}
+use lib.ListN.{drop, length, length-append, length-take, take, take-append-drop}
+use lib.Seq.{drop-drop, length-take-le, take_all, take-nil}
 use borrow.Author.Tests.{leb-false, leb-true}
 use Rattle.storage.specs.Bytes.{splice}
-use Rattle.storage.proofs.Splice.{length-splice, sets_splice, splice-append, splice_none}
-use Rattle.storage.proofs.Numbers.{AllBytes}
-use Rattle.alloc.specs.Volume.{Objects, block_at, objects, volume_of}
+use Rattle.storage.proofs.Splice.{length-splice, splice-append, splice-left, splice_none}
+use Rattle.alloc.specs.Volume.{objects, volume_of}
+use Rattle.calls.specs.Reading.{block_in}
 use Rattle.tree.specs.Fields.{is_dir}
-use Rattle.tree.specs.Verdict.{well_formed}
-use Rattle.listing.specs.Held.{held_lines}
-use Rattle.listing.specs.Numbers.{Stores, numbers_of, seven_of}
-use Rattle.listing.proofs.Few.{lines-few}
+use Rattle.listing.specs.declared.lines.Node.{Node}
+use Rattle.listing.specs.Nodes.{levels, lines_at, lines_in, own_line}
+use Rattle.listing.specs.Numbers.{Stores, StoresTo, numbers_of, seven_of}
 use Rattle.listing.proofs.Held.{count-file, held_none, own_first}
-use Rattle.history.specs.Listing.{Line, line_of, lines_of, object_lines}
+use Rattle.history.specs.Listing.{Line}
 
--- seven stores
-pub store_seven : (s : List ℕ) (p a b c d e f g : ℕ) → p + 7 ≤ length s
-    → set (set (set (set (set (set (set s p a) (p + 1) b) (p + 2) c) (p + 3) d) (p + 4) e) (p + 5) f) (p + 6) g ≡ splice s p (a ∷ b ∷ c ∷ d ∷ e ∷ f ∷ g ∷ [])
-store_seven s p a b c d e f g h =
-    let k1 : p + 1 ≡ suc p = omega arith in
-    let k2 : p + 2 ≡ suc (suc p) = omega arith in
-    let k3 : p + 3 ≡ suc (suc (suc p)) = omega arith in
-    let k4 : p + 4 ≡ suc (suc (suc (suc p))) = omega arith in
-    let k5 : p + 5 ≡ suc (suc (suc (suc (suc p)))) = omega arith in
-    let k6 : p + 6 ≡ suc (suc (suc (suc (suc (suc p))))) = omega arith in
-    rw (k1, k2, k3, k4, k5, k6) (sets_splice (a ∷ b ∷ c ∷ d ∷ e ∷ f ∷ g ∷ []) s p h)
+-- a part of a row that is copied over
+pub part-spliced : (s : List ℕ) (a k : ℕ) (x : List ℕ) → k ≡ length x → take a s ++ (x ++ drop k (drop a s)) ≡ splice s a x
+unfolding splice
+part-spliced s a k x e = ap (λ (v : List ℕ). take a s ++ (x ++ v)) (drop-drop k a s ∙ ap (λ (n : ℕ). drop (a + n) s) e)
 
 -- ---- rows of lines
 
@@ -54,7 +46,7 @@ take-both (x ∷ xs) ys (suc k) =
 
 -- ---- lines that are stored
 
-pub stores_none : (n i : ℕ) (m : List ℕ) → Stores n i [] m i m
+pub stores_none : (n i : ℕ) (m : List ℕ) → StoresTo n i [] m i m
 unfolding numbers_of
 stores_none n i m = record {
   next = omega arith;
@@ -64,7 +56,7 @@ stores_none n i m = record {
 
 -- one line: it is stored, or it is past the last
 pub stores_line : (n i : ℕ) (m : List ℕ) → i < n → 7 * n ≤ length m → {k l : Line} → k ≡ l → {m' : List ℕ} → m' ≡ splice m (7 * i) (seven_of k)
-    → Stores n i (l ∷ []) m (i + 1) m'
+    → StoresTo n i (l ∷ []) m (i + 1) m'
 unfolding numbers_of
 stores_line n i m h f {k} {l} q e = record {
   next = refl;
@@ -72,7 +64,7 @@ stores_line n i m h f {k} {l} q e = record {
   same_size = ap length e ∙ length-splice m (seven_of k) (7 * i) (omega arith);
 }
 
-pub stores_past : (n i : ℕ) (l : Line) (m : List ℕ) → n ≤ i → Stores n i (l ∷ []) m (i + 1) m
+pub stores_past : (n i : ℕ) (l : Line) (m : List ℕ) → n ≤ i → StoresTo n i (l ∷ []) m (i + 1) m
 unfolding numbers_of
 stores_past n i l m h =
     let z : n - i ≡ 0 = omega arith in
@@ -83,8 +75,8 @@ stores_past n i l m h =
     }
 
 -- two rows, one after the other
-module _ {n i j : ℕ} {xs ys : List Line} {m m' : List ℕ} (f : 7 * n ≤ length m) (v : Stores n i xs m j m') where
-  pub stores_both : {k : ℕ} {m'' : List ℕ} → Stores n j ys m' k m'' → Stores n i (xs ++ ys) m k m''
+module _ {n i j : ℕ} {xs ys : List Line} {m m' : List ℕ} (f : 7 * n ≤ length m) (v : StoresTo n i xs m j m') where
+  pub stores_both : {k : ℕ} {m'' : List ℕ} → StoresTo n j ys m' k m'' → StoresTo n i (xs ++ ys) m k m''
   unfolding numbers_of
   stores_both {k} {m''} w = record {
     next = omega (arith, v.next, w.next, length-append xs ys);
@@ -121,65 +113,69 @@ module _ {n i j : ℕ} {xs ys : List Line} {m m' : List ℕ} (f : 7 * n ≤ leng
           ∙ splice_none (splice m (7 * i) x) (7 * j)
           ∙ ap (splice m (7 * i)) (sym (p ∙ ap (λ (t : ℕ). x ++ numbers_of (take t ys)) z ∙ append-nil x))
 
--- an object: its own line, and what its slots hold
-pub stores_object : (n i : ℕ) (os : Objects) (r up nm d levels : ℕ) {m m' : List ℕ} → 7 * n ≤ length m → Stores n i (line_of r up nm d (block_at os r) ∷ []) m (i + 1) m'
-    → {k : ℕ} {m'' : List ℕ} → Stores n (i + 1) (held_lines levels os r d 0) m' k m'' → Stores n i (object_lines levels os r up nm d) m k m''
-stores_object n i os r up nm d levels {m} f v {k} {m''} w = subst (λ (ls : List Line). Stores n i ls m k m'') (sym (own_first os r up nm d levels)) (stores_both f v w)
+-- the rows have the same room
+as_long : (v : List ℕ) {u : List ℕ} → length u ≡ length v → {i k : ℕ} {ls : List Line} {m : List ℕ} → Stores i ls u k m → StoresTo (length v / 7) i ls u k m
+as_long v {u} e {i} {k} {ls} {m} w = subst (λ (t : ℕ). StoresTo t i ls u k m) (ap (λ (t : ℕ). t / 7) e) w
 
--- a file: its own line alone
-pub stores_file : (n i : ℕ) (os : Objects) (r up nm d levels : ℕ) {m m' : List ℕ} → is_dir (block_at os r) ≡ false → Stores n i (line_of r up nm d (block_at os r) ∷ []) m (i + 1) m'
-    → Stores n i (object_lines levels os r up nm d) m (i + 1) m'
-stores_file n i os r up nm d levels {m} {m'} e v =
-    subst (λ (ls : List Line). Stores n i ls m (i + 1) m')
-    (sym (own_first os r up nm d levels ∙ ap (λ (ls : List Line). line_of r up nm d (block_at os r) ∷ ls) (held_none os r d levels 0 (omega (arith, count-file (block_at os r) levels e))))) v
+-- an object: its own line, and what its slots hold
+module _ (s : List ℕ) (x : Node) {i : ℕ} {m m' : List ℕ} (v : Stores i (own_line s x ∷ []) m (i + 1) m') where
+  own_lines : lines_at s x ≡ own_line s x ∷ lines_in s x 0
+  own_lines = own_first (objects (volume_of s)) x.at.0 x.parent.0 x.name.0 x.depth (levels x.depth)
+
+  pub stores_object : {k : ℕ} {m'' : List ℕ} → Stores (i + 1) (lines_in s x 0) m' k m'' → Stores i (lines_at s x) m k m''
+  stores_object {k} {m''} w = subst (λ (ls : List Line). Stores i ls m k m'') (sym own_lines) (stores_both (omega arith) v (as_long m v.same_size w))
+
+  -- a file: its own line alone
+  pub stores_file : is_dir (block_in s x.at.0) ≡ false → Stores i (lines_at s x) m (i + 1) m'
+  stores_file e =
+      subst (λ (ls : List Line). Stores i ls m (i + 1) m')
+      (sym (own_lines ∙ ap (λ (ls : List Line). own_line s x ∷ ls)
+      (held_none (objects (volume_of s)) x.at.0 x.depth (levels x.depth) 0 (omega (arith, count-file (block_in s x.at.0) (levels x.depth) e))))) v
 
 -- room for all is room for what follows the first
-pub object-behind : (os : Objects) (r up nm d levels i : ℕ) {m : ℕ} → i + length (object_lines levels os r up nm d) ≤ m → i + 1 + length (held_lines levels os r d 0) ≤ m
-object-behind os r up nm d levels i h = omega (arith, ap length (own_first os r up nm d levels))
+pub object-behind : (s : List ℕ) (x : Node) (i : ℕ) {m : ℕ} → i + length (lines_at s x) ≤ m → i + 1 + length (lines_in s x 0) ≤ m
+object-behind s x i h = omega (arith, ap length (own_first (objects (volume_of s)) x.at.0 x.parent.0 x.name.0 x.depth (levels x.depth)))
 
 -- ---- the loop over the slots
 
 -- the lines of the slots that are passed are stored; those of the others are to come
-pub record Storing (n i : ℕ) (all rest : List Line) (before : List ℕ) (at : ℕ) (now : List ℕ) : Type 0 where
-  pub carry : {k : ℕ} {m : List ℕ} → Stores n at rest now k m → Stores n i all before k m
+pub record Storing (i : ℕ) (all rest : List Line) (before : List ℕ) (at : ℕ) (now : List ℕ) : Type 0 where
+  pub carry : {k : ℕ} {m : List ℕ} → StoresTo (length before / 7) at rest now k m → Stores i all before k m
   pub left : at + length rest ≡ i + length all
   pub same_size : length now ≡ length before
 
-pub storing_start : (n i : ℕ) (all : List Line) (m : List ℕ) → Storing n i all all m i m
-storing_start n i all m = record { carry = λ w. w; left = refl; same_size = refl }
+pub storing_start : (i : ℕ) (all : List Line) (m : List ℕ) → Storing i all all m i m
+storing_start i all m = record { carry = λ w. w; left = refl; same_size = refl }
 
-module _ {n i : ℕ} {all rest : List Line} {before : List ℕ} {at : ℕ} {now : List ℕ} (w : Storing n i all rest before at now) where
-  pub storing_as : {xs : List Line} → rest ≡ xs → Storing n i all xs before at now
-  storing_as e = subst (λ (v : List Line). Storing n i all v before at now) e w
+module _ {i : ℕ} {all rest : List Line} {before : List ℕ} {at : ℕ} {now : List ℕ} (w : Storing i all rest before at now) where
+  pub storing_as : {xs : List Line} → rest ≡ xs → Storing i all xs before at now
+  storing_as e = subst (λ (v : List Line). Storing i all v before at now) e w
 
-  pub storing_end : rest ≡ [] → Stores n i all before at now
-  storing_end e = (storing_as e).carry (stores_none n at now)
+  pub storing_end : rest ≡ [] → Stores i all before at now
+  storing_end e = (storing_as e).carry (stores_none (length before / 7) at now)
 
-  pub storing_on : (xs ys : List Line) → rest ≡ xs ++ ys → 7 * n ≤ length before → {k : ℕ} {m : List ℕ} → Stores n at xs now k m → Storing n i all ys before k m
-  storing_on xs ys e f v = record {
-    carry = λ u. (storing_as e).carry (stores_both (omega (arith, w.same_size)) v u);
+  pub storing_on : (xs ys : List Line) → rest ≡ xs ++ ys → {k : ℕ} {m : List ℕ} → Stores at xs now k m → Storing i all ys before k m
+  storing_on xs ys e v = record {
+    carry = λ u. (storing_as e).carry (stores_both (omega (arith, w.same_size)) (as_long before w.same_size v) u);
     left = omega (arith, w.left, v.next, ap length e, length-append xs ys);
     same_size = v.same_size ∙ w.same_size;
   }
 
 -- ---- the lines of the image
 
-module _ (s : List ℕ) {r : ℕ} (e : r ≡ (volume_of s).root) where
-  root-lines : object_lines 16 (objects (volume_of s)) r r 0 0 ≡ lines_of s
-  unfolding lines_of
-  root-lines = ap (λ (v : ℕ). object_lines 16 (objects (volume_of s)) v v 0 0) e
-
-  pub root-few : AllBytes s → well_formed s ≡ true → 0 + length (object_lines 16 (objects (volume_of s)) r r 0 0) ≤ 4294967296
-  root-few b f = omega (arith, ap length root-lines, lines-few s b f)
-
-  pub root_stores : {n : ℕ} {m : List ℕ} {k : ℕ} {m' : List ℕ} → Stores n 0 (object_lines 16 (objects (volume_of s)) r r 0 0) m k m' → Stores n 0 (lines_of s) m k m'
-  root_stores {n} {m} {k} {m'} w = subst (λ (v : List Line). Stores n 0 v m k m') root-lines w
+-- those before line n, in a row whose front has room for just them
+pub stored-first : (n : ℕ) (m : List ℕ) {ls : List Line} {k : ℕ} {m' : List ℕ} → 7 * n ≤ length m → Stores 0 ls (take (7 * n) m) k m'
+    → m' ++ drop (7 * n) m ≡ splice m 0 (numbers_of (take n ls))
+stored-first n m {ls} {k} {m'} h w =
+    let l : length (take (7 * n) m) ≡ 7 * n = length-take-le (7 * n) m h in
+    let z : length (take (7 * n) m) / 7 - 0 ≡ n = omega arith in
+    let x : List ℕ = numbers_of (take n ls) in
+    let f : 0 + length x ≤ length (take (7 * n) m) = omega (arith, length_numbers (take n ls), length-take n ls) in
+    ap (λ (v : List ℕ). v ++ drop (7 * n) m) (w.stored ∙ ap (λ (t : ℕ). splice (take (7 * n) m) 0 (numbers_of (take t ls))) z)
+    ∙ sym (splice-left (take (7 * n) m) (drop (7 * n) m) x 0 f)
+    ∙ ap (λ (v : List ℕ). splice v 0 x) (take-append-drop (7 * n) m)
 
 -- none of them
 pub stored_none : (ls : List Line) (n : ℕ) (m : List ℕ) → n ≡ 0 → m ≡ splice m 0 (numbers_of (take n ls))
 unfolding numbers_of
 stored_none ls n m e = sym (ap (λ (k : ℕ). splice m 0 (numbers_of (take k ls))) e ∙ splice_none m 0)
-
--- those before line n
-pub stored-first : {n : ℕ} {ls : List Line} {m : List ℕ} {k : ℕ} {m' : List ℕ} → Stores n 0 ls m k m' → m' ≡ splice m 0 (numbers_of (take n ls))
-stored-first {n} {ls} {m} w = let z : n - 0 ≡ n = omega arith in w.stored ∙ ap (λ (k : ℕ). splice m 0 (numbers_of (take k ls))) z

@@ -1,6 +1,5 @@
 -- What the answers of this crate's functions say, and what they require.
 use Rattle.std.specs.Prelude.{◌<◌, ◌≤◌, suc, zero, ℕ, List, [], ◌++◌, ◌∷◌, map, ◌≡◌, true, drop, get_or, length}
-use Rattle.std.proofs.Math.Option.{Option, none, some}
 use Rattle.storage.specs.declared.Ref.{Ref}
 use Rattle.tree.specs.Fields.{total}
 use Rattle.tree.specs.Verdict.{well_formed}
@@ -10,17 +9,10 @@ use Rattle.calls.specs.declared.reading.Kind.TheVariants.{File, Directory}
 use Rattle.calls.specs.Answers.{kind_is}
 use Rattle.calls.specs.Reading.{Kind, file, directory}
 use Rattle.listing.specs.declared.lines.Line as declared-line
-use Rattle.listing.specs.declared.seek.Seen.{Seen}
-use Rattle.listing.specs.declared.seek.Seen.TheVariants.{Here, Nothing}
 use Rattle.history.specs.Listing.{Line, Listed, lines_of, list}
 
 abbrev pub line_is : declared-line.Line → Line
 line_is l = record { ref = l.at.0; parent = l.parent.0; name = l.name.0; depth = l.depth; kind = kind_is l.kind }
-
--- a line, or none
-abbrev pub seen_of : Seen → Option Line
-seen_of (Here l) = some (line_is l)
-seen_of Nothing = none
 
 -- ---- the call
 

@@ -1,5 +1,5 @@
 -- Kinds and lines as numbers.
-use Rattle.std.specs.Prelude.{ℕ, ◌+◌, ◌-◌, ◌*◌, List, [], ◌∷◌, ◌++◌, ◌≡◌, length, take}
+use Rattle.std.specs.Prelude.{ℕ, ◌+◌, ◌-◌, ◌*◌, ◌/◌, List, [], ◌∷◌, ◌++◌, ◌≡◌, length, take}
 use Rattle.storage.specs.Bytes.{splice}
 use Rattle.calls.specs.Reading.{Kind, file, directory}
 use Rattle.history.specs.Listing.{Line}
@@ -28,7 +28,11 @@ numbers_of [] = []
 numbers_of (l ∷ ls) = seven_of l ++ numbers_of ls
 
 -- of a row of lines whose first is line i, those before line n are stored in a row of numbers, and k is the next
-pub record Stores (n i : ℕ) (ls : List Line) (before : List ℕ) (k : ℕ) (after : List ℕ) : Type 0 where
+pub record StoresTo (n i : ℕ) (ls : List Line) (before : List ℕ) (k : ℕ) (after : List ℕ) : Type 0 where
   pub next : k ≡ i + length ls
   pub stored : after ≡ splice before (7 * i) (numbers_of (take (n - i) ls))
   pub same_size : length after ≡ length before
+
+-- those that the row has room for
+abbrev pub Stores : ℕ → List Line → List ℕ → ℕ → List ℕ → Type 0
+Stores i ls before k after = StoresTo (length before / 7) i ls before k after

@@ -8,15 +8,14 @@ ghost use Rattle.listing.specs.Numbers.{directory_of, first_of, second_of, seven
 
 use crate::lines::Line;
 use calls::reading::Kind;
-use storage::Ref;
 
 // 1 for a directory, or else 0.
 pub fn directory_of(k: Kind) -> u8
     ensures { result ≡ directory_of (kind_is k) }
 {
     match k {
-        Kind::File { size: _, room: _ } => 0,
-        Kind::Directory { taken: _, total: _ } => 1,
+        Kind::File { .. } => 0,
+        Kind::Directory { .. } => 1,
     }
 }
 
@@ -24,8 +23,8 @@ pub fn first_of(k: Kind) -> u64
     ensures { result ≡ first_of (kind_is k) }
 {
     match k {
-        Kind::File { size, room: _ } => size,
-        Kind::Directory { taken, total: _ } => taken,
+        Kind::File { size, .. } => size,
+        Kind::Directory { taken, .. } => taken,
     }
 }
 
@@ -33,9 +32,24 @@ pub fn second_of(k: Kind) -> u64
     ensures { result ≡ second_of (kind_is k) }
 {
     match k {
-        Kind::File { size: _, room } => room,
-        Kind::Directory { taken: _, total } => total,
+        Kind::File { room, .. } => room,
+        Kind::Directory { total, .. } => total,
     }
+}
+
+// A line as seven numbers.
+fn seven_of(l: Line) -> [u64; 7]
+    ensures { result ≡ seven_of (line_is l) }
+{
+    [
+        l.at.0,
+        l.parent.0,
+        l.name.0,
+        l.depth,
+        u64::from(directory_of(l.kind)),
+        first_of(l.kind),
+        second_of(l.kind),
+    ]
 }
 
 // The seven numbers of a line, from `at` on.
@@ -43,15 +57,5 @@ pub fn put(numbers: &mut [u64], at: usize, l: Line)
     requires { at + 7 ≤ length numbers.old }
     ensures { numbers.new ≡ splice numbers.old at (seven_of (line_is l)) }
 {
-    let r: Ref = l.at;
-    let parent: Ref = l.parent;
-    let name: Ref = l.name;
-    let kind = l.kind;
-    numbers[at] = r.0;
-    numbers[at + 1] = parent.0;
-    numbers[at + 2] = name.0;
-    numbers[at + 3] = l.depth;
-    numbers[at + 4] = directory_of(kind) as u64;
-    numbers[at + 5] = first_of(kind);
-    numbers[at + 6] = second_of(kind);
+    numbers[at..at + 7].copy_from_slice(&seven_of(l));
 }

@@ -1,103 +1,70 @@
-// The whole listing in one walk, as numbers: an object stores its own line and then those of its slots, and a slot those of its object.
+// The whole listing in one walk, as numbers: an object stores its own line and then those of its slots, and a slot those of its object. What is past the row is not stored.
 
-ghost use Rattle.std.specs.Prelude.{◌≡◌, true, [], ◌∷◌, ◌+◌, ◌*◌, ◌/◌, ◌≤◌, length, take};
+ghost use Rattle.std.specs.Prelude.{◌≡◌, true, [], ◌∷◌, ◌+◌, ◌/◌, ◌≤◌, length, take};
 ghost use Rattle.storage.specs.Bytes.{splice};
-ghost use Rattle.alloc.specs.Volume.{volume_of, objects};
 ghost use Rattle.tree.specs.Verdict.{well_formed};
 ghost use Rattle.calls.specs.Answers.{ObjectAt};
-ghost use Rattle.calls.specs.Reading.{block_in};
 ghost use Rattle.listing.specs.Answers.{Fillable};
-ghost use Rattle.listing.specs.Held.{held_lines};
+ghost use Rattle.listing.specs.Nodes.{lines_at, lines_in, own_line, NodeIn};
 ghost use Rattle.listing.specs.Numbers.{numbers_of, Stores};
-ghost use Rattle.history.specs.Listing.{line_of, lines_of, object_lines};
+ghost use Rattle.history.specs.Listing.{lines_of};
 
+use crate::lines::Node;
 use crate::{lines, numbers};
 use alloc::block;
 use storage::Ref;
 use tree::fields;
 
-// The own line of the object at `r`, as line `i`; it is not stored from `n` on.
-fn own(
-    image: &[u8],
-    numbers: &mut [u64],
-    n: usize,
-    r: Ref,
-    up: Ref,
-    name: Ref,
-    depth: u64,
-    i: usize,
-)
-    requires { ObjectAt image.now r.0 × (7 * n ≤ length numbers.old) }
-    ensures { Stores n i (line_of r.0 up.0 name.0 depth (block_in image.now r.0) ∷ []) numbers.old (i + 1) numbers.new }
+// The own line of the object at this node, as line `i`.
+fn own(image: &[u8], numbers: &mut [u64], node: Node, i: usize)
+    requires { ObjectAt image.now node.at.0 }
+    ensures { Stores i (own_line image.now node ∷ []) numbers.old (i + 1) numbers.new }
 {
-    if n <= i {
+    if numbers.len() / 7 <= i {
         return;
     }
-    let line = lines::line_of(image, r, up, name, depth);
-    numbers::put(numbers, 7 * i, line);
+    numbers::put(numbers, 7 * i, lines::line_of(image, node));
 }
 
-// The object at `r` and what it holds, from line `i` on. Tells the next line.
+// The object at this node and what it holds, from line `i` on. Tells the next line.
 #[cycle(object_slots)]
-fn object(
-    image: &[u8],
-    numbers: &mut [u64],
-    n: usize,
-    r: Ref,
-    up: Ref,
-    name: Ref,
-    depth: u64,
-    levels: u64,
-    i: usize,
-) -> usize
-    requires { ObjectAt image.now r.0 × (depth + levels ≤ 16) × (7 * n ≤ length numbers.old) × (i + length (object_lines levels (objects (volume_of image.now)) r.0 up.0 name.0 depth) ≤ 4294967296) }
-    ensures { Stores n i (object_lines levels (objects (volume_of image.now)) r.0 up.0 name.0 depth) numbers.old result numbers.new }
+fn object(image: &[u8], numbers: &mut [u64], node: Node, i: usize) -> usize
+    requires { NodeIn image.now node × (i + length (lines_at image.now node) ≤ 4294967296) }
+    ensures { Stores i (lines_at image.now node) numbers.old result numbers.new }
 {
-    own(image, numbers, n, r, up, name, depth, i);
-    slots(image, numbers, n, r, depth, levels, i + 1)
+    own(image, numbers, node, i);
+    slots(image, numbers, node, i + 1)
 }
 
-// What the slots of the object at `d` hold. A file has its own line alone, and needs no call.
+// What the slots of the object at this node hold. A file has its own line alone, and needs no call.
 #[cycle(object_slots)]
-fn slots(
-    image: &[u8],
-    numbers: &mut [u64],
-    n: usize,
-    d: Ref,
-    depth: u64,
-    levels: u64,
-    i: usize,
-) -> usize
-    requires { ObjectAt image.now d.0 × (depth + levels ≤ 16) × (7 * n ≤ length numbers.old) × (i + length (held_lines levels (objects (volume_of image.now)) d.0 depth 0) ≤ 4294967296) }
-    ensures { Stores n i (held_lines levels (objects (volume_of image.now)) d.0 depth 0) numbers.old result numbers.new }
+fn slots(image: &[u8], numbers: &mut [u64], node: Node, i: usize) -> usize
+    requires { NodeIn image.now node × (i + length (lines_in image.now node 0) ≤ 4294967296) }
+    ensures { Stores i (lines_in image.now node 0) numbers.old result numbers.new }
 {
-    let last = lines::open_slots(image, d, levels);
     let mut at = i;
-    let mut slot: usize = 0;
-    while slot < last {
-        let s = fields::slot_at(image, d, slot);
-        let o = s.object;
-        slot += 1;
-        if o.0 == 0 {
+    for j in 0..lines::open_slots(image, node) {
+        let slot = fields::slot_at(image, node.at, j);
+        if slot.object.0 == 0 {
             continue;
         }
-        if block::magic_at(image, o) != block::SFDE {
-            own(image, numbers, n, o, d, s.name, depth + 1, at);
+        let child = lines::child(node, slot);
+        if block::magic_at(image, child.at) != block::SFDE {
+            own(image, numbers, child, at);
             at += 1;
             continue;
         }
-        at = object(image, numbers, n, o, d, s.name, depth + 1, levels - 1, at);
+        at = object(image, numbers, child, at);
     }
     at
 }
 
-// The first `n` lines of the image, in a row of numbers; tells how many lines there are.
-fn all(image: &[u8], numbers: &mut [u64], n: usize) -> usize
-    requires { (well_formed image.now ≡ true) × (7 * n ≤ length numbers.old) }
-    ensures { Stores n 0 (lines_of image.now) numbers.old result numbers.new }
+// The lines of the image, as many as the row has room for; tells how many there are.
+fn all(image: &[u8], numbers: &mut [u64]) -> usize
+    requires { well_formed image.now ≡ true }
+    ensures { Stores 0 (lines_of image.now) numbers.old result numbers.new }
 {
-    let root = alloc::chain::root(image);
-    object(image, numbers, n, root, root, Ref(0), 0, 16, 0)
+    object(image, numbers, lines::root(image), 0)
 }
 
 // How many lines the image has: none is stored.
@@ -105,8 +72,7 @@ pub fn count(image: &[u8]) -> u64
     requires { well_formed image.now ≡ true }
     ensures { result ≡ length (lines_of image.now) }
 {
-    let mut none = [0u64; 1];
-    all(image, &mut none, 0) as u64
+    all(image, &mut []) as u64
 }
 
 // The first `n` lines of the image.
@@ -117,5 +83,5 @@ pub fn fill(image: &[u8], numbers: &mut [u64], n: usize)
     if n == 0 {
         return;
     }
-    all(image, numbers, n);
+    all(image, &mut numbers[..7 * n]);
 }

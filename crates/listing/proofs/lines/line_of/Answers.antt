@@ -6,4 +6,4 @@ use Rattle.listing.proofs.lines.line_of.Goals as goal
 
 pub returns : goal.returns
 unfolding line_of
-returns c = ap (λ (k : Kind). record { ref = c.args.r.0; parent = c.args.up.0; name = c.args.name.0; depth = c.args.depth; kind = k }) c.kind_at-kind.ensures
+returns c = ap (λ (k : Kind). record { ref = c.args.node.at.0; parent = c.args.node.parent.0; name = c.args.node.name.0; depth = c.args.node.depth; kind = k }) c.kind_at-kind.ensures

@@ -6,8 +6,8 @@ use mathlib.Core.Path.{◌∙◌, ap}
 use native.Mathlib.Omega.{arith}
 use Rattle.listing.proofs.lines.open_slots.Goals as goal
 
-pub returns-then-levels-eq0 : goal.returns-then-levels-eq0
-returns-then-levels-eq0 c = count_none _ _ c.if-levels-eq0.true
+pub returns-then-node-ge16 : goal.returns-then-node-ge16
+returns-then-node-ge16 c = count_none _ _ (omega arith)
 
 pub magic_at-requires : goal.magic_at-requires
 magic_at-requires c = omega (arith, (object-at (λ i. (c.type_inv.image i).fits) c.requires).standing.fits)
@@ -25,6 +25,6 @@ returns c =
     c.slot_count.ensures ∙ ap total (directory-stands (λ i. (c.type_inv.image i).fits)
     (object-directory (λ i. (c.type_inv.image i).fits) c.requires c.magic_at.ensures
     c.if-magic_at-ne-SFDE.false)).1
-    ∙ count_all _ _ c.if-levels-eq0.false
+    ∙ count_all _ _ (λ z. omega (arith, z))
     (object-directory (λ i. (c.type_inv.image i).fits) c.requires
     c.magic_at.ensures c.if-magic_at-ne-SFDE.false).kind

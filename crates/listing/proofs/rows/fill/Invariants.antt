@@ -1,11 +1,9 @@
--- fill: i lines are stored, and the cursor stands before line i.
-use Rattle.std.proofs.Common.{◌≡◌, ◌≤◌, ◌-◌}
-use Rattle.listing.specs.Cursors.{At}
-use Rattle.listing.proofs.Stored.{after}
+-- fill: the lines so far are stored, and the others are ahead.
+use Rattle.std.proofs.Common.{◌≡◌}
+use Rattle.listing.proofs.Cursors.{Ahead}
+use Rattle.listing.specs.Answers.{filled}
+use Rattle.listing.specs.Left.{lines_left}
 use Rattle.listing.proofs.rows.fill.Given as goal
 
-abbrev pub invariant-loop-i : goal.invariant-loop-i
-invariant-loop-i l = record { low : l.i ≤ l.n; stands : At l.image l.c.slots l.i; stored : l.lines ≡ after l.image l.initial.lines l.i }
-
-abbrev pub decreases-loop-i : goal.decreases-loop-i
-decreases-loop-i l = l.n - l.i
+abbrev pub invariant-loop-line : goal.invariant-loop-line
+invariant-loop-line l = record { ahead : Ahead l.image (lines_left l.ahead) l.line-index; stored : l.line-items ≡ filled l.image l.line-index l.initial.line-items }

@@ -1,19 +1,13 @@
-use Rattle.std.proofs.Common.{◌*◌, ◌+◌, ◌-◌}
-use Rattle.alloc.specs.Volume.{objects, volume_of}
-use Rattle.listing.specs.Held.{held_lines}
+use Rattle.std.proofs.Common.{◌*◌, ◌+◌}
 use Rattle.listing.proofs.Storing.{Storing}
+use Rattle.listing.specs.Nodes.{levels, lines_in}
 use Rattle.listing.proofs.walk.+object_slots.Given as goal
 
 abbrev pub decreases-object : goal.decreases-object
-decreases-object l = 2 * l.levels + 1
+decreases-object l = 2 * levels l.node.depth + 1
 
 abbrev pub decreases-slots : goal.decreases-slots
-decreases-slots l = 2 * l.levels
+decreases-slots l = 2 * levels l.node.depth
 
-abbrev pub invariant-slots-loop-slot : goal.invariant-slots-loop-slot
-invariant-slots-loop-slot l =
-    Storing l.n l.i (held_lines l.levels (objects (volume_of l.image)) l.d.0 l.depth 0) (held_lines l.levels (objects (volume_of l.image)) l.d.0 l.depth l.slot)
-    l.initial.numbers l.at l.numbers
-
-abbrev pub decreases-slots-loop-slot : goal.decreases-slots-loop-slot
-decreases-slots-loop-slot l = l.last - l.slot
+abbrev pub invariant-slots-loop-j : goal.invariant-slots-loop-j
+invariant-slots-loop-j l = Storing l.i (lines_in l.image l.node 0) (lines_in l.image l.node l.j) l.initial.numbers l.at l.numbers
