@@ -5,7 +5,8 @@ use mathlib.Core.List.{List}
 use mathlib.Core.Logic.{◌⊎◌, inl, inr}
 use mathlib.Core.Path.{◌∙◌, ◌≡◌, ap, refl, subst, sym}
 use native.Mathlib.Omega.{arith}
-use borrow.Author.Tests.{eq-eqb, eqb-true, ne_eqb}
+use lib.Dec.{eqb}
+use borrow.Author.Tests.{eqb-true}
 use Rattle.storage.proofs.Booleans.{or_elim}
 use Rattle.storage.proofs.Numbers.{AllBytes}
 use Rattle.alloc.specs.Block.{Block, SFde, SFre, block_of, magic_at}
@@ -47,31 +48,31 @@ module _ {s : List ℕ} (h : AllBytes s) where
   pub object-at : {r : ℕ} → ObjectAt s r → StandsAt s r (block_in s r)
   object-at {r} o = formed-stands r o.formed (or_elim (is_file (block_in s r)) (is_dir (block_in s r)) o.kind (file-there (block_in s r)) (dir_there (block_in s r)))
 
-  -- by the magic that code reads
-  module _ {r : ℕ} (o : ObjectAt s r) {m : ℕ} (q : m ≡ magic_at s r) where
-    magic-is : m ≡ (block_in s r).magic
+  -- by what code asks of the magic
+  module _ {r : ℕ} (o : ObjectAt s r) {t : Bool} where
+    is-as : (k : ℕ) → t ≡ eqb (magic_at s r) k → eqb (block_in s r).magic k ≡ t
     unfolding block_of
-    magic-is = q ∙ ap (λ (b : Block). b.magic) (object-at o).block
+    is-as k q = ap (λ (b : Block). eqb b.magic k) (sym (object-at o).block) ∙ sym q
 
-    pub object-directory : m ≡ SFde → DirectoryIn s r
-    object-directory e = record { formed = o.formed; kind = eq-eqb (block_in s r).magic SFde (sym magic-is ∙ e) }
+    pub object-directory : t ≡ eqb (magic_at s r) SFde → t ≡ true → DirectoryIn s r
+    object-directory q e = record { formed = o.formed; kind = is-as SFde q ∙ e }
 
-    pub object-file : m ≡ SFre → FileIn s r
-    object-file e = record { formed = o.formed; kind = eq-eqb (block_in s r).magic SFre (sym magic-is ∙ e) }
+    pub object-file : t ≡ eqb (magic_at s r) SFre → t ≡ true → FileIn s r
+    object-file q e = record { formed = o.formed; kind = is-as SFre q ∙ e }
 
-    pub no_directory : (m ≡ SFde → ⊥) → is_dir (block_in s r) ≡ false
-    no_directory n = ne_eqb (block_in s r).magic SFde (λ e. n (magic-is ∙ e))
+    pub no_directory : t ≡ eqb (magic_at s r) SFde → t ≡ false → is_dir (block_in s r) ≡ false
+    no_directory q e = is-as SFde q ∙ e
 
-    pub no_file : (m ≡ SFre → ⊥) → is_file (block_in s r) ≡ false
-    no_file n = ne_eqb (block_in s r).magic SFre (λ e. n (magic-is ∙ e))
+    pub no_file : t ≡ eqb (magic_at s r) SFre → t ≡ false → is_file (block_in s r) ≡ false
+    no_file q e = is-as SFre q ∙ e
 
     -- what is no directory is a file
-    pub other-file : (m ≡ SFde → ⊥) → FileIn s r
-    other-file n = record { formed = o.formed; kind = or_first (is_file (block_in s r)) o.kind }
+    pub other-file : t ≡ eqb (magic_at s r) SFde → t ≡ false → FileIn s r
+    other-file q n = record { formed = o.formed; kind = or_first (is_file (block_in s r)) o.kind }
       where
         or_first : (t : Bool) → (t || is_dir (block_in s r)) ≡ true → t ≡ true
         or_first true e = refl
-        or_first false e = let z : ◌≡◌ {A = Bool} false true = sym (no_directory n) ∙ e in let y : ◌≡◌ {A = ℕ} 0 1 = cc in absurd (omega arith)
+        or_first false e = let z : ◌≡◌ {A = Bool} false true = sym (no_directory q n) ∙ e in let y : ◌≡◌ {A = ℕ} 0 1 = cc in absurd (omega arith)
 
   -- the root
   pub root-object : well_formed s ≡ true → ObjectAt s (volume_of s).root

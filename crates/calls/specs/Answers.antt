@@ -5,6 +5,7 @@ use Rattle.std.proofs.Math.Option.{Option, none, some}
 use Rattle.storage.specs.Bytes.{same, zeroed}
 use Rattle.storage.specs.declared.Ref.{Ref}
 use Rattle.tree.specs.Fields.{is_dir, is_file, slot_at, taken, content}
+use Rattle.tree.specs.Answers.{rule_number}
 use Rattle.tree.specs.Verdict.{well_formed}
 use Rattle.calls.specs.declared.refusal.Reason.{Reason}
 use Rattle.calls.specs.declared.refusal.Refusal as declared-refusal
@@ -12,13 +13,13 @@ use Rattle.calls.specs.declared.refusal.Refusal.TheVariants as told
 use Rattle.calls.specs.declared.reading.Kind as declared-kind
 use Rattle.calls.specs.declared.reading.Kind.TheVariants.{File, Directory}
 use Rattle.calls.specs.declared.reading.Found as declared-found
-use Rattle.calls.specs.Refusal.{Refusal, Accepted, Broken, For, Checked}
+use Rattle.calls.specs.Refusal.{Refusal, Accepted, For, Checked, broken}
 use Rattle.calls.specs.Walk.{Start, refused, reached}
 use Rattle.calls.specs.Reading.{Kind, file, directory, Found, Read, Point, copied, block_in}
 
 -- why a call is refused
 abbrev pub refused_as : declared-refusal.Refusal → Refusal
-refused_as (told.Broken n r) = Broken n r
+refused_as (told.Broken b) = broken (record { rule = rule_number b.rule; place = b.place.0 })
 refused_as (told.For w) = For w
 
 -- what an answer tells of its call: accepted, or why it is refused

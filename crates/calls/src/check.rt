@@ -1,31 +1,16 @@
 // Check: what every call that looks at the image begins with.
 
-ghost use Rattle.std.specs.Prelude.{◌≡◌, ◌≤◌};
-ghost use Rattle.tree.specs.Answers.{verdict_of};
+ghost use Rattle.std.specs.Prelude.{◌≡◌};
 ghost use Rattle.calls.specs.Refusal as spec;
 ghost use Rattle.calls.specs.Answers.{Checks, outcome_of};
 
 use crate::refusal::{Reason, Refusal};
-use tree::verdict::Verdict;
 
-// 20 + the lowest-numbered broken rule, at the first block that breaks it.
-fn refusal_of(verdict: Verdict) -> Result<(), Refusal>
-    requires { verdict.rule ≤ 8 }
-    ensures { outcome_of result ≡ spec.refusal_of (verdict_of verdict) }
-{
-    let rule = verdict.rule;
-    let place = verdict.place;
-    if rule == 0 {
-        return Ok(());
-    }
-    Err(Refusal::Broken(20 + rule, place))
-}
-
-// The image's own refusal.
+// The image's own refusal: the lowest-numbered broken rule, at the first block that breaks it.
 pub fn check(image: &[u8]) -> Result<(), Refusal>
     ensures { outcome_of result ≡ spec.check image.now }
 {
-    refusal_of(tree::verdict::judge(image))
+    Ok(tree::verdict::judge(image)?)
 }
 
 // The same with lent marks, one for each unit: afterwards they are the image's, or 0 where it is not well formed.
@@ -35,5 +20,5 @@ pub fn check_marked(image: &[u8], marks: &mut [u8]) -> Result<(), Refusal>
     if (marks.len() as u64) < storage::units_of(image.len()) {
         return Err(Refusal::For(Reason::TooFewMarks));
     }
-    refusal_of(tree::verdict::judge_marked(image, marks))
+    Ok(tree::verdict::judge_marked(image, marks)?)
 }

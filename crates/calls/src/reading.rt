@@ -29,7 +29,7 @@ pub fn kind_at(image: &[u8], r: Ref) -> Kind
     requires { ObjectAt image.now r.0 }
     ensures { kind_is result ≡ kind_of (block_in image.now r.0) }
 {
-    if block::magic_at(image, r) == block::SFDE {
+    if block::is(image, r, block::Kind::Directory) {
         let taken = fields::taken_count(image, r);
         let total = fields::slot_count(image, r) as u64;
         return Kind::Directory { taken, total };

@@ -5,6 +5,7 @@ ghost use Rattle.calls.specs.Refusal.{number_of, place_of};
 ghost use Rattle.calls.specs.Answers.{outcome_of};
 
 use storage::Ref;
+use tree::verdict::Breach;
 
 // The refusals of an image that is well formed, and of format, each by document 01's number.
 #[derive(Clone, Copy, PartialEq, Eq)]
@@ -26,11 +27,22 @@ pub enum Reason {
     TooFewMarks = 17,
 }
 
-// The image breaks a rule (the number, 21 to 28, and the first block that breaks it), or the call is refused for another reason.
+// The image breaks a rule, or the call is refused for another reason.
 #[derive(Clone, Copy)]
 pub enum Refusal {
-    Broken(u8, Ref),
+    Broken(Breach),
     For(Reason),
+}
+
+impl From<Breach> for Refusal {
+    ghost use Rattle.std.specs.Prelude.{◌≡◌};
+    ghost use Rattle.calls.specs.declared.refusal.Refusal.TheVariants as told;
+
+    ghost from_gives = { λ b r. r ≡ told.Broken b };
+
+    fn from(breach: Breach) -> Refusal {
+        Refusal::Broken(breach)
+    }
 }
 
 impl From<Reason> for Refusal {
@@ -44,13 +56,13 @@ impl From<Reason> for Refusal {
     }
 }
 
-// The number of an answer's refusal, 0 for none.
+// The number of an answer's refusal: 20 + the number of the broken rule, or the reason's; 0 for none.
 pub fn number<T>(answer: &Result<T, Refusal>) -> u8
     ensures { result ≡ number_of (outcome_of answer.now) }
 {
     match answer {
         Ok(_) => 0,
-        Err(Refusal::Broken(n, _)) => *n,
+        Err(Refusal::Broken(breach)) => 20 + breach.rule.number(),
         Err(Refusal::For(reason)) => *reason as u8,
     }
 }
@@ -61,7 +73,7 @@ pub fn place<T>(answer: &Result<T, Refusal>) -> Ref
 {
     match answer {
         Ok(_) => Ref(0),
-        Err(Refusal::Broken(_, at)) => *at,
+        Err(Refusal::Broken(breach)) => breach.place,
         Err(Refusal::For(_)) => Ref(0),
     }
 }

@@ -30,7 +30,7 @@ fn take_step(image: &[u8], r: Ref, name: &[u8]) -> Result<Ref, Reason>
     requires { ObjectAt image.now r.0 }
     ensures { step_of result ≡ walked (step (objects (volume_of image.now)) r.0 name.now) }
 {
-    if block::magic_at(image, r) != block::SFDE {
+    if !block::is(image, r, block::Kind::Directory) {
         return Err(Reason::NotDirectory);
     }
     child(image, r, name)
@@ -75,7 +75,7 @@ pub fn file(image: &[u8], path: &[u8], allowed: bool) -> Result<Ref, Refusal>
     ensures { start_of result ≡ as_file image.now (spec.start image.now path.now allowed) }
 {
     let r = begin(image, path, allowed)?;
-    if block::magic_at(image, r) != block::SFRE {
+    if !block::is(image, r, block::Kind::File) {
         return Err(Refusal::For(Reason::IsDirectory));
     }
     Ok(r)
@@ -90,7 +90,7 @@ pub fn begin_above(image: &[u8], path: &[u8], allowed: bool, top: Reason) -> Res
         return Err(Refusal::For(top));
     }
     let d = walk_from(image, path::directory(path))?;
-    if block::magic_at(image, d) != block::SFDE {
+    if !block::is(image, d, block::Kind::Directory) {
         return Err(Refusal::For(Reason::NotDirectory));
     }
     Ok(d)

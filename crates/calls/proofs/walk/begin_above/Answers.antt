@@ -20,19 +20,19 @@ returns-in_err-d c =
     rw (err_is _ c.in_err-d.field-0.0 c.from_residual-in_err-d.ensures.1)
     (above-refused _ _ _ _ c.in_ok-opening.ensures c.count.ensures c.if-count-eq0.false _ c.directory.ensures _ c.in_err-d.ensures)
 
-pub magic_at-requires : goal.magic_at-requires
-magic_at-requires c =
+pub is-requires : goal.is-requires
+is-requires c =
     let o = opened_object _ _ _ c.in_ok-opening.ensures (λ i. (c.type_inv.image i).fits) _ _ c.in_ok-d.ensures in
     omega (arith, (object-at (λ i. (c.type_inv.image i).fits) o).standing.fits)
 
-pub returns-then-magic_at-ne-SFDE : goal.returns-then-magic_at-ne-SFDE
-returns-then-magic_at-ne-SFDE c =
+pub returns-then-not-is : goal.returns-then-not-is
+returns-then-not-is c =
     let o = opened_object _ _ _ c.in_ok-opening.ensures (λ i. (c.type_inv.image i).fits) _ _ c.in_ok-d.ensures in
     above-file _ _ _ _ c.in_ok-opening.ensures c.count.ensures c.if-count-eq0.false _ c.directory.ensures _ c.in_ok-d.ensures
-    (no_directory (λ i. (c.type_inv.image i).fits) o c.magic_at.ensures c.if-magic_at-ne-SFDE.true)
+    (no_directory (λ i. (c.type_inv.image i).fits) o c.is.ensures c.if-not-is.true)
 
 pub returns : goal.returns
 returns c =
     let o = opened_object _ _ _ c.in_ok-opening.ensures (λ i. (c.type_inv.image i).fits) _ _ c.in_ok-d.ensures in
     above-directory _ _ _ _ c.in_ok-opening.ensures c.count.ensures c.if-count-eq0.false _ c.directory.ensures _ c.in_ok-d.ensures
-    (object-directory (λ i. (c.type_inv.image i).fits) o c.magic_at.ensures c.if-magic_at-ne-SFDE.false).kind
+    (object-directory (λ i. (c.type_inv.image i).fits) o c.is.ensures c.if-not-is.false).kind

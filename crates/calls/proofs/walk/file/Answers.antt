@@ -10,13 +10,13 @@ use Rattle.calls.proofs.walk.file.Goals as goal
 pub returns-in_err-r : goal.returns-in_err-r
 returns-in_err-r c = rw (err_is _ c.in_err-r.field-0.0 c.from_residual.ensures.1) (ap (as_file c.args.image.now) c.in_err-r.ensures)
 
-pub magic_at-requires : goal.magic_at-requires
-magic_at-requires c = omega (arith, (object-at (λ i. (c.type_inv.image i).fits) (start-object (λ i. (c.type_inv.image i).fits) _ _ _ c.in_ok-r.ensures)).standing.fits)
+pub is-requires : goal.is-requires
+is-requires c = omega (arith, (object-at (λ i. (c.type_inv.image i).fits) (start-object (λ i. (c.type_inv.image i).fits) _ _ _ c.in_ok-r.ensures)).standing.fits)
 
-pub returns-then-magic_at-ne-SFRE : goal.returns-then-magic_at-ne-SFRE
-returns-then-magic_at-ne-SFRE c =
-    file-directory _ _ c.in_ok-r.ensures (no_file (λ i. (c.type_inv.image i).fits) (start-object (λ i. (c.type_inv.image i).fits) _ _ _ c.in_ok-r.ensures) c.magic_at.ensures c.if-magic_at-ne-SFRE.true)
+pub returns-then-not-is : goal.returns-then-not-is
+returns-then-not-is c =
+    file-directory _ _ c.in_ok-r.ensures (no_file (λ i. (c.type_inv.image i).fits) (start-object (λ i. (c.type_inv.image i).fits) _ _ _ c.in_ok-r.ensures) c.is.ensures c.if-not-is.true)
 
 pub returns : goal.returns
 returns c =
-    file-reached _ _ c.in_ok-r.ensures (object-file (λ i. (c.type_inv.image i).fits) (start-object (λ i. (c.type_inv.image i).fits) _ _ _ c.in_ok-r.ensures) c.magic_at.ensures c.if-magic_at-ne-SFRE.false).kind
+    file-reached _ _ c.in_ok-r.ensures (object-file (λ i. (c.type_inv.image i).fits) (start-object (λ i. (c.type_inv.image i).fits) _ _ _ c.in_ok-r.ensures) c.is.ensures c.if-not-is.false).kind

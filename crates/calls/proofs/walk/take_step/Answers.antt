@@ -6,11 +6,11 @@ use mathlib.Core.Path.{ap}
 use native.Mathlib.Omega.{arith}
 use Rattle.calls.proofs.walk.take_step.Goals as goal
 
-pub magic_at-requires : goal.magic_at-requires
-magic_at-requires c = omega (arith, (object-at (λ i. (c.type_inv.image i).fits) c.requires).standing.fits)
+pub is-requires : goal.is-requires
+is-requires c = omega (arith, (object-at (λ i. (c.type_inv.image i).fits) c.requires).standing.fits)
 
-pub returns-then-magic_at-ne-SFDE : goal.returns-then-magic_at-ne-SFDE
-returns-then-magic_at-ne-SFDE c = ap walked (step-blocked _ _ _ (no_directory (λ i. (c.type_inv.image i).fits) c.requires c.magic_at.ensures c.if-magic_at-ne-SFDE.true))
+pub returns-then-not-is : goal.returns-then-not-is
+returns-then-not-is c = ap walked (step-blocked _ _ _ (no_directory (λ i. (c.type_inv.image i).fits) c.requires c.is.ensures c.if-not-is.true))
 
 pub child-requires : goal.child-requires
-child-requires c = object-directory (λ i. (c.type_inv.image i).fits) c.requires c.magic_at.ensures c.if-magic_at-ne-SFDE.false
+child-requires c = object-directory (λ i. (c.type_inv.image i).fits) c.requires c.is.ensures c.if-not-is.false
