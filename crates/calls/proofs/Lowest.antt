@@ -4,9 +4,13 @@ use mathlib.Core.Bool.{Bool, false, not, true}
 use mathlib.Core.List.{List}
 use mathlib.Core.Option.{Option, none, some}
 use mathlib.Core.Path.{◌∙◌, ◌≡◌, ap, refl, subst, sym}
+use native.Mathlib.Numerals.{add-one}
 use native.Mathlib.Nat.{add-zero, zero-add}
 use native.Mathlib.Omega.{arith}
-use borrow.Author.Tests.{eq-eqb, ne_eqb}
+use Rattle.std.specs.Prelude as std
+use Rattle.std.specs.Prelude.{MatchOption, None, Some}
+use Rattle.calls.specs.Answers.{index_of}
+use lib.Dec.{eqb}
 use Rattle.alloc.specs.Block.{Block}
 use Rattle.tree.specs.Fields.{Slot, is_dir, slot_at, slots, slots_from, taken, total}
 use Rattle.tree.proofs.Indexed.{slots_dir, slots-other}
@@ -52,6 +56,24 @@ module _ {p : Slot → Bool} {b : Block} {i : ℕ} (w : Seeking p b i) where
   unfolding first_slot
   seeking_end h = sym (w.so_far ∙ ap (λ (ss : List Slot). from i (first_slot p ss)) (left_end b i h))
 
+-- the first that passes, of those below n, or none
+pub lowest_found : (p : Slot → Bool) (b : Block) → is_dir b ≡ true → {n : ℕ} → n ≡ total b → (o : std.Option ℕ)
+    → MatchOption o ((k : ℕ) → 0 ≤ k → k < n → false ≡ p (slot_at b k))
+    (λ i. (0 ≤ i) × (i < n) × (true ≡ p (slot_at b i)) × ((k : ℕ) → 0 ≤ k → k < i → false ≡ p (slot_at b k)))
+    → index_of o ≡ first_slot p (slots b)
+lowest_found p b d {n} e o m = go o m
+  where
+    upto : (i : ℕ) → i ≤ n → ((k : ℕ) → 0 ≤ k → k < i → false ≡ p (slot_at b k)) → Seeking p b i
+    upto zero l h = seeking_start p b d
+    upto (suc i) l h =
+        let w = upto i (omega arith) (λ k z q. h k z (omega arith)) in
+        subst (Seeking p b) (add-one i) (seeking_on w (omega arith) false (h i (omega arith) (omega arith)) refl)
+
+    go : (o : std.Option ℕ) → MatchOption o ((k : ℕ) → 0 ≤ k → k < n → false ≡ p (slot_at b k))
+        (λ i. (0 ≤ i) × (i < n) × (true ≡ p (slot_at b i)) × ((k : ℕ) → 0 ≤ k → k < i → false ≡ p (slot_at b k))) → index_of o ≡ first_slot p (slots b)
+    go None h = seeking_end (upto n (omega arith) h) (omega arith)
+    go (Some i) h = seeking_here (upto i (omega (arith, h.1)) h.3) (omega (arith, h.1)) true h.2 refl
+
 -- ---- what is found
 
 found_from : (p : Slot → Bool) (b : Block) (j n i : ℕ) → first_slot p (slots_from b j n) ≡ some i → (i < n) × (p (slot_at b (j + i)) ≡ true)
@@ -84,10 +106,11 @@ found-slot p b i e = go (is_dir b) refl
         (r.0, subst (λ (x : ℕ). p (slot_at b x) ≡ true) (zero-add i) r.1)
     go false d = let z : none ≡ some i = ap (first_slot p) (sym (slots-other b d)) ∙ e in let y : ◌≡◌ {A = ℕ} 0 1 = cc in absurd (omega arith)
 
--- ---- empty and taken slots, as they are read
+-- ---- an empty slot, as it is read
 
-pub empty-slot : {x y : Slot} → x ≡ y → x.1 ≡ 0 → true ≡ not (taken y)
-empty-slot {x} {y} e z = sym (rw (eq-eqb y.1 0 (ap (λ (s : Slot). s.1) (sym e) ∙ z)))
-
-pub taken-slot : {x y : Slot} → x ≡ y → (x.1 ≡ 0 → ⊥) → false ≡ not (taken y)
-taken-slot {x} {y} e n = sym (rw (ne_eqb y.1 0 (λ z. n (ap (λ (s : Slot). s.1) e ∙ z))))
+pub empty-slot : {x y : Slot} → x ≡ y → eqb x.1 0 ≡ not (taken y)
+empty-slot {x} {y} e = ap (λ (s : Slot). eqb s.1 0) e ∙ twice (eqb y.1 0)
+  where
+    twice : (t : Bool) → t ≡ not (not t)
+    twice true = refl
+    twice false = refl

@@ -1,7 +1,7 @@
 // Slots of a directory, looked for from the first on.
 
-ghost use Rattle.std.specs.Prelude.{◌≡◌, ◌<◌};
-ghost use Rattle.tree.specs.Fields.{total};
+ghost use Rattle.std.specs.Prelude.{◌≡◌, ◌<◌, not};
+ghost use Rattle.tree.specs.Fields.{total, slot_at, taken};
 ghost use Rattle.calls.specs.Walk.{slot_named, empty_slot};
 ghost use Rattle.calls.specs.Reading.{block_in};
 ghost use Rattle.alloc.specs.Volume.{volume_of, objects};
@@ -25,18 +25,21 @@ fn has_name(image: &[u8], d: Ref, i: usize, name: &[u8]) -> bool
     access::equals(image, held, name)
 }
 
+// Whether slot `i` of the directory at `d` is empty.
+fn is_empty(image: &[u8], d: Ref, i: usize) -> bool
+    requires { DirectoryIn image.now d.0 × (i < total (block_in image.now d.0)) }
+    ensures { result ≡ not (taken (slot_at (block_in image.now d.0) i)) }
+{
+    fields::slot_at(image, d, i).object.0 == 0
+}
+
 // The slot of the directory at `d` with this name.
 pub fn with_name(image: &[u8], d: Ref, name: &[u8]) -> Option<usize>
     requires { DirectoryIn image.now d.0 }
     ensures { index_of result ≡ slot_named (objects (volume_of image.now)) (block_in image.now d.0) name.now }
 {
     let count = fields::slot_count(image, d);
-    for i in 0..count {
-        if has_name(image, d, i, name) {
-            return Some(i);
-        }
-    }
-    None
+    (0..count).find(|&i| has_name(image, d, i, name))
 }
 
 // The lowest empty slot of the directory at `d`.
@@ -44,13 +47,6 @@ pub fn empty(image: &[u8], d: Ref) -> Option<usize>
     requires { DirectoryIn image.now d.0 }
     ensures { index_of result ≡ empty_slot (block_in image.now d.0) }
 {
-    let n = fields::slot_count(image, d);
-    for i in 0..n {
-        let s = fields::slot_at(image, d, i);
-        let object = s.object;
-        if object.0 == 0 {
-            return Some(i);
-        }
-    }
-    None
+    let count = fields::slot_count(image, d);
+    (0..count).find(|&i| is_empty(image, d, i))
 }

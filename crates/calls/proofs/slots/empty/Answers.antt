@@ -1,27 +1,27 @@
 -- empty: slot after slot.
-use Rattle.calls.proofs.Lowest.{empty-slot, seeking_end, seeking_here, seeking_on, seeking_start, taken-slot}
-use Rattle.calls.proofs.Stands.{directory-stands, slot_read, slots-counted}
-use mathlib.Core.Bool.{false, true}
-use mathlib.Core.Path.{refl}
+use Prim.Native.Nat.{ℕ, ◌<◌}
+use Rattle.std.proofs.Common.{rules}
+use Rattle.std.proofs.lemmas.Iterator.{first_from_Range, serves_from_Range}
+use Rattle.calls.specs.Reading.{block_in}
+use Rattle.tree.specs.Fields.{slot_at, taken, total}
+use Rattle.calls.proofs.Lowest.{lowest_found}
+use Rattle.calls.proofs.Stands.{directory-stands, slots-counted}
 use native.Mathlib.Omega.{arith}
+use mathlib.Core.Path.{◌≡◌}
+use mathlib.Core.Bool.{true, false, not}
 use Rattle.calls.proofs.slots.empty.Goals as goal
 
-pub slot_count-n-requires : goal.slot_count-n-requires
-slot_count-n-requires c = (directory-stands (λ i. (c.type_inv.image i).fits) c.requires).0
+pub slot_count-count-requires : goal.slot_count-count-requires
+slot_count-count-requires c = (directory-stands (λ i. (c.type_inv.image i).fits) c.requires).0
 
-pub loop-i-init : goal.loop-i-init
-loop-i-init c = seeking_start _ _ c.requires.kind
-
-pub slot_at-s-requires : goal.slot_at-s-requires
-slot_at-s-requires c = ((directory-stands (λ i. (c.type_inv.image i).fits) c.requires).0, omega (arith, c.slot_count-n.ensures))
-
-pub returns-then-object-eq0 : goal.returns-then-object-eq0
-returns-then-object-eq0 c =
-    seeking_here c.loop-i.invariant (omega (arith, slots-counted (λ i. (c.type_inv.image i).fits) c.requires c.slot_count-n.ensures)) true (empty-slot (slot_read (λ i. (c.type_inv.image i).fits) c.requires c.loop-i.i c.slot_at-s.ensures) c.if-object-eq0.true) refl
-
-pub loop-i-preserved : goal.loop-i-preserved
-loop-i-preserved c =
-    seeking_on c.loop-i.invariant (omega (arith, slots-counted (λ i. (c.type_inv.image i).fits) c.requires c.slot_count-n.ensures)) false (taken-slot (slot_read (λ i. (c.type_inv.image i).fits) c.requires c.loop-i.i c.slot_at-s.ensures) c.if-object-eq0.false) refl
+pub find-requires-clause-callable : goal.find-requires-clause-callable
+find-requires-clause-callable c =
+    let d = c.requires in
+    let n = slots-counted (λ i. (c.type_inv.image i).fits) d c.slot_count-count.ensures in
+    serves_from_Range (λ x q k. search rules)
+    (λ x a l. let k : (y : ℕ) → y ≡ x → y < total (block_in c.args.image.now c.args.d.0) = λ y e. omega arith in search (rules, k))
 
 pub returns : goal.returns
-returns c = seeking_end c.loop-i.invariant (omega (arith, slots-counted (λ i. (c.type_inv.image i).fits) c.requires c.slot_count-n.ensures))
+returns c =
+    lowest_found _ _ c.requires.kind (slots-counted (λ i. (c.type_inv.image i).fits) c.requires c.slot_count-count.ensures) c.find.result
+    (first_from_Range _ _ _ c.find.result (λ i. true ≡ not (taken (slot_at (block_in c.args.image.now c.args.d.0) i))) (λ i. false ≡ not (taken (slot_at (block_in c.args.image.now c.args.d.0) i))) c.find.ensures.ran (λ x q k. search rules) (λ x q k. search rules))

@@ -1,23 +1,28 @@
 -- with_name: slot after slot.
-use Rattle.calls.proofs.Lowest.{seeking_end, seeking_here, seeking_on, seeking_start}
+use Prim.Native.Nat.{ℕ, ◌<◌}
+use Rattle.std.proofs.Common.{rules}
+use Rattle.std.proofs.lemmas.Iterator.{first_from_Range, serves_from_Range}
+use Rattle.calls.specs.Answers.{named}
+use Rattle.calls.specs.Reading.{block_in}
+use Rattle.tree.specs.Fields.{total}
+use Rattle.calls.proofs.Lowest.{lowest_found}
 use Rattle.calls.proofs.Stands.{directory-stands, slots-counted}
 use native.Mathlib.Omega.{arith}
+use mathlib.Core.Path.{◌≡◌}
+use mathlib.Core.Bool.{true, false}
 use Rattle.calls.proofs.slots.with_name.Goals as goal
 
 pub slot_count-count-requires : goal.slot_count-count-requires
 slot_count-count-requires c = (directory-stands (λ i. (c.type_inv.image i).fits) c.requires).0
 
-pub loop-i-init : goal.loop-i-init
-loop-i-init c = seeking_start _ _ c.requires.kind
-
-pub has_name-requires : goal.has_name-requires
-has_name-requires c = (c.requires, omega (arith, slots-counted (λ i. (c.type_inv.image i).fits) c.requires c.slot_count-count.ensures))
-
-pub returns-then-has_name : goal.returns-then-has_name
-returns-then-has_name c = seeking_here c.loop-i.invariant (omega (arith, slots-counted (λ i. (c.type_inv.image i).fits) c.requires c.slot_count-count.ensures)) _ c.has_name.ensures c.if-has_name.true
-
-pub loop-i-preserved : goal.loop-i-preserved
-loop-i-preserved c = seeking_on c.loop-i.invariant (omega (arith, slots-counted (λ i. (c.type_inv.image i).fits) c.requires c.slot_count-count.ensures)) _ c.has_name.ensures c.if-has_name.false
+pub find-requires-clause-callable : goal.find-requires-clause-callable
+find-requires-clause-callable c =
+    let d = c.requires in
+    let n = slots-counted (λ i. (c.type_inv.image i).fits) d c.slot_count-count.ensures in
+    serves_from_Range (λ x q k. search rules)
+    (λ x a l. let k : (y : ℕ) → y ≡ x → y < total (block_in c.args.image.now c.args.d.0) = λ y e. omega arith in search (rules, k))
 
 pub returns : goal.returns
-returns c = seeking_end c.loop-i.invariant (omega (arith, slots-counted (λ i. (c.type_inv.image i).fits) c.requires c.slot_count-count.ensures))
+returns c =
+    lowest_found _ _ c.requires.kind (slots-counted (λ i. (c.type_inv.image i).fits) c.requires c.slot_count-count.ensures) c.find.result
+    (first_from_Range _ _ _ c.find.result (λ i. true ≡ named c.args.image.now c.args.d.0 i c.args.name.now) (λ i. false ≡ named c.args.image.now c.args.d.0 i c.args.name.now) c.find.ensures.ran (λ x q k. search rules) (λ x q k. search rules))
