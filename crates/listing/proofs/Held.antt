@@ -104,69 +104,71 @@ count_all b (suc k) h e = sym (rw e)
 
 -- ---- a slot that is gone through
 
+-- slot j of the directory at a node, which has levels below it
+pub record Gone (s : List ℕ) (d : Node) (j : ℕ) : Type 0 where
+  pub low : d.depth < 16
+  pub counted : j < slot_count (levels d.depth) (block_in s d.at.0)
+  pub read : DirectoryAt s d.at.0 × (j < total (block_of s d.at.0))
+  pub few : j < 1024
+  pub read_is : {x : Slot} → x ≡ slot_at (block_of s d.at.0) j → x ≡ slot_at (block_in s d.at.0) j
+  pub object : ((slot_at (block_in s d.at.0) j).1 ≡ 0 → ⊥) → ObjectAt s (slot_at (block_in s d.at.0) j).1
+
+pub gone : {s : List ℕ} → AllBytes s → {d : Node} → NodeIn s d → {j n : ℕ} → n ≡ slot_count (levels d.depth) (block_in s d.at.0) → j < n → Gone s d j
+gone {s} b {d} o {j} e l =
+    let h : j < slot_count (levels d.depth) (block_in s d.at.0) = omega arith in
+    let c = counted-directory (levels d.depth) (block_in s d.at.0) h in
+    let r : DirectoryIn s d.at.0 = record { formed = o.object.formed; kind = c.0 } in
+    let k : j < total (block_in s d.at.0) = omega (arith, c.2) in
+    let a : DirectoryAt s d.at.0 × (j < total (block_of s d.at.0)) = ((directory-stands b r).0, slot_here b r j k) in
+    record {
+      low = omega (arith, c.1);
+      counted = h;
+      read = a;
+      few = (slot-inside a.0 j a.1).1;
+      read_is = slot_read b r j;
+      object = λ t. slot-object b r j k (rw (ne_eqb (slot_at (block_in s d.at.0) j).1 0 t));
+    }
+
 -- a node of the object that slot j names
 pub record Child (s : List ℕ) (d : Node) (j : ℕ) (x : Node) : Type 0 where
   pub there : NodeIn s x
   pub deeper : x.depth ≡ d.depth + 1
-  pub below : levels x.depth ≡ levels d.depth - 1
+  pub below : levels x.depth + 1 ≡ levels d.depth
   pub parent_is : x.parent.0 ≡ d.at.0
   pub taken : x.at.0 ≡ 0 → ⊥
   pub counted : j < slot_count (levels d.depth) (block_in s d.at.0)
   pub slot_is : (x.name.0, x.at.0) ≡ slot_at (block_in s d.at.0) j
 
-module _ {s : List ℕ} (b : AllBytes s) {d : Node} {j n : ℕ} (o : NodeIn s d) (e : n ≡ slot_count (levels d.depth) (block_in s d.at.0)) (l : j < n) where
-  counted : (is_dir (block_in s d.at.0) ≡ true) × (0 < levels d.depth) × (slot_count (levels d.depth) (block_in s d.at.0) ≡ total (block_in s d.at.0))
-  counted = let h : j < slot_count (levels d.depth) (block_in s d.at.0) = omega arith in counted-directory (levels d.depth) (block_in s d.at.0) h
+module _ {s : List ℕ} {d : Node} {j : ℕ} (g : Gone s d j) {c : declared-slot.Slot} (q : slot_of c ≡ slot_at (block_of s d.at.0) j) where
+  -- an empty slot holds no line
+  pub gone_empty : c.object.0 ≡ 0 → lines_in s d j ≡ lines_in s d (j + 1)
+  gone_empty = held-empty (objects (volume_of s)) d.at.0 d.depth (levels d.depth) j g.counted (g.read_is q)
 
-  gone_directory : DirectoryIn s d.at.0
-  gone_directory = record { formed = o.object.formed; kind = counted.0 }
+  -- the object of a taken one
+  pub gone_child : (c.object.0 ≡ 0 → ⊥) → {x : Node} → x ≡ child_of d c → Child s d j x
+  gone_child t {x} y =
+      let e : (c.name.0, c.object.0) ≡ slot_at (block_in s d.at.0) j = g.read_is q in
+      let o : ObjectAt s c.object.0 =
+      subst (λ (v : Slot). ObjectAt s v.1) (sym e) (g.object (λ z. t (ap (λ (v : Slot). v.1) e ∙ z))) in
+      subst (Child s d j) (sym y) (record {
+        there = record { object = o; low = omega (arith, g.low) };
+        deeper = refl;
+        below = omega (arith, g.low);
+        parent_is = refl;
+        taken = t;
+        counted = g.counted;
+        slot_is = e;
+      })
 
-  pub gone_low : d.depth < 16
-  gone_low = omega (arith, counted.1)
-
-  pub gone_slot : (j < slot_count (levels d.depth) (block_in s d.at.0)) × (j < total (block_in s d.at.0))
-  gone_slot = omega (arith, e, counted.2)
-
-  pub gone_read : DirectoryAt s d.at.0 × (j < total (block_of s d.at.0))
-  gone_read = ((directory-stands b gone_directory).0, slot_here b gone_directory j gone_slot.1)
-
-  pub gone_few : j < 1024
-  gone_few = (slot-inside gone_read.0 j gone_read.1).1
-
-  -- the slot, as it is read
-  module _ {c : declared-slot.Slot} (q : slot_of c ≡ slot_at (block_of s d.at.0) j) where
-    pub gone_is : slot_of c ≡ slot_at (block_in s d.at.0) j
-    gone_is = slot_read b gone_directory j q
-
-    -- an empty one holds no line
-    pub gone_empty : c.object.0 ≡ 0 → lines_in s d j ≡ lines_in s d (j + 1)
-    gone_empty = held-empty (objects (volume_of s)) d.at.0 d.depth (levels d.depth) j gone_slot.0 gone_is
-
-    -- the object of a taken one
-    module _ (t : c.object.0 ≡ 0 → ⊥) where
-      gone_object : ObjectAt s c.object.0
-      gone_object =
-          subst (λ (y : Slot). ObjectAt s y.1) (sym gone_is)
-          (slot-object b gone_directory j gone_slot.1 (rw (ne_eqb (slot_at (block_in s d.at.0) j).1 0 (λ z. t (ap (λ (y : Slot). y.1) gone_is ∙ z)))))
-
-      pub gone_child : {x : Node} → x ≡ child_of d c → Child s d j x
-      gone_child {x} y =
-          subst (Child s d j) (sym y) (record {
-            there = record { object = gone_object; low = omega (arith, gone_low) };
-            deeper = refl;
-            below = omega arith;
-            parent_is = refl;
-            taken = t;
-            counted = gone_slot.0;
-            slot_is = gone_is;
-          })
+pub child-levels : {s : List ℕ} {d : Node} {j : ℕ} {x : Node} → Child s d j x → levels d.depth - 1 ≡ levels x.depth
+child-levels c = omega (arith, c.below)
 
 -- the lines of the slots from this one on
 module _ {s : List ℕ} {d : Node} {j : ℕ} {x : Node} (c : Child s d j x) where
   pub child-lines : lines_in s d j ≡ lines_at s x ++ lines_in s d (j + 1)
   child-lines =
       held-taken (objects (volume_of s)) d.at.0 d.depth (levels d.depth) j c.counted c.slot_is c.taken
-      ∙ rw (sym c.below, sym c.deeper, sym c.parent_is)
+      ∙ rw (child-levels c, sym c.deeper, sym c.parent_is)
 
   -- where those have room its object's have
   pub child-room : (at m : ℕ) → at + length (lines_in s d j) ≤ m → at + length (lines_at s x) ≤ m

@@ -1,5 +1,5 @@
 -- object and slots: slots have twice their object's levels as measure, an object one more; the loop passes a slot in each turn.
-use Rattle.listing.proofs.Held.{gone_child, gone_few, gone_is, gone_low, gone_read, gone_slot}
+use Rattle.listing.proofs.Held.{gone, gone_child}
 use Rattle.listing.proofs.Seeking.{goes_begun, goes_own, passing_empty, passing_end, passing_found, passing_on, passing_start}
 use mathlib.Core.Path.{◌∙◌, refl, sym}
 use native.Mathlib.Omega.{arith}
@@ -16,36 +16,37 @@ pub slots-loop-i-init : goal.slots-loop-i-init
 slots-loop-i-init t c = passing_start _ _ _ c.from-first.ensures c.requires.1
 
 pub slots-slot_at-slot-requires : goal.slots-slot_at-slot-requires
-slots-slot_at-slot-requires t c = gone_read (λ i. (c.type_inv.image i).fits) c.requires.0 c.open_slots-i-end.ensures (omega arith)
+slots-slot_at-slot-requires t c = (gone (λ i. (c.type_inv.image i).fits) c.requires.0 c.open_slots-i-end.ensures c.loop-i-test.true).read
 
 pub slots-child-requires : goal.slots-child-requires
-slots-child-requires t c = gone_low (λ i. (c.type_inv.image i).fits) {j = c.loop-i.i} c.requires.0 c.open_slots-i-end.ensures (omega arith)
+slots-child-requires t c = (gone (λ i. (c.type_inv.image i).fits) c.requires.0 c.open_slots-i-end.ensures c.loop-i-test.true).low
 
 pub slots-object-line-requires : goal.slots-object-line-requires
 slots-object-line-requires t c =
-    let k = gone_child (λ i. (c.type_inv.image i).fits) c.requires.0 c.open_slots-i-end.ensures (omega arith) c.slot_at-slot.ensures c.if-slot-ne0.true c.child.ensures in
-    (omega (arith, c.decreases, k.below, gone_low (λ i. (c.type_inv.image i).fits) {j = c.loop-i.i} c.requires.0 c.open_slots-i-end.ensures (omega arith)), k.there)
+    let g = gone (λ i. (c.type_inv.image i).fits) c.requires.0 c.open_slots-i-end.ensures c.loop-i-test.true in
+    let k = gone_child g c.slot_at-slot.ensures c.if-slot-ne0.true c.child.ensures in
+    (omega (arith, c.decreases, k.below), k.there)
 
 pub slots-returns-then-is_some : goal.slots-returns-then-is_some
 slots-returns-then-is_some t c =
-    passing_found c.loop-i.invariant _ (gone_child (λ i. (c.type_inv.image i).fits) c.requires.0 c.open_slots-i-end.ensures (omega arith) c.slot_at-slot.ensures c.if-slot-ne0.true c.child.ensures)
+    let g = gone (λ i. (c.type_inv.image i).fits) c.requires.0 c.open_slots-i-end.ensures c.loop-i-test.true in
+    passing_found c.loop-i.invariant _ (gone_child g c.slot_at-slot.ensures c.if-slot-ne0.true c.child.ensures)
     c.object-line.ensures (sym c.is_some.ensures ∙ c.if-is_some.true)
 
 pub slots-overflow_add-i : goal.slots-overflow_add-i
-slots-overflow_add-i t c = omega (arith, gone_few (λ i. (c.type_inv.image i).fits) {j = c.loop-i.i} c.requires.0 c.open_slots-i-end.ensures (omega arith))
+slots-overflow_add-i t c = omega (arith, (gone (λ i. (c.type_inv.image i).fits) c.requires.0 c.open_slots-i-end.ensures c.loop-i-test.true).few)
 
 pub slots-overflow_cast-i : goal.slots-overflow_cast-i
-slots-overflow_cast-i t c = omega (arith, gone_few (λ i. (c.type_inv.image i).fits) {j = c.loop-i.i} c.requires.0 c.open_slots-i-end.ensures (omega arith))
+slots-overflow_cast-i t c = omega (arith, (gone (λ i. (c.type_inv.image i).fits) c.requires.0 c.open_slots-i-end.ensures c.loop-i-test.true).few)
 
 pub slots-loop-i-preserved : goal.slots-loop-i-preserved
 slots-loop-i-preserved t c =
+    let g = gone (λ i. (c.type_inv.image i).fits) c.requires.0 c.open_slots-i-end.ensures c.loop-i-test.true in
     elim c.if-slot-ne0.branch [
       | slots-then-slot-ne0+else-is_some w ↦
-          passing_on c.loop-i.invariant refl c.place.ensures w.cursor-is (gone_child (λ i. (c.type_inv.image i).fits) c.requires.0 c.open_slots-i-end.ensures (omega arith) c.slot_at-slot.ensures w.if-slot-ne0.true w.child.ensures) _
+          passing_on c.loop-i.invariant refl c.place.ensures w.cursor-is (gone_child g c.slot_at-slot.ensures w.if-slot-ne0.true w.child.ensures) _
           w.object-line.ensures (sym w.is_some.ensures ∙ w.if-is_some.false)
-      | slots-else-slot-ne0 w ↦
-          passing_empty c.loop-i.invariant refl c.place.ensures w.cursor-is
-          (gone_slot (λ i. (c.type_inv.image i).fits) c.requires.0 c.open_slots-i-end.ensures (omega arith)).0 (gone_is (λ i. (c.type_inv.image i).fits) c.requires.0 c.open_slots-i-end.ensures (omega arith) c.slot_at-slot.ensures) w.if-slot-ne0.false
+      | slots-else-slot-ne0 w ↦ passing_empty c.loop-i.invariant refl c.place.ensures w.cursor-is g c.slot_at-slot.ensures w.if-slot-ne0.false
     ]
 
 pub slots-returns : goal.slots-returns

@@ -1,6 +1,6 @@
 -- object and slots: slots have twice their object's levels as measure, an object one more; the loop stores the lines of a slot in each turn.
 use Rattle.calls.proofs.Stands.{no_directory, object-at as object-stands}
-use Rattle.listing.proofs.Held.{child-lines, child-room, gone_child, gone_empty, gone_low, gone_read, held_none}
+use Rattle.listing.proofs.Held.{child-lines, child-room, gone, gone_child, gone_empty, held_none}
 use Rattle.listing.proofs.Storing.{object-behind, storing_as, storing_end, storing_on, storing_start, stores_file, stores_object}
 use native.Mathlib.Omega.{arith}
 use Rattle.listing.proofs.walk.+object_slots.Goals as goal
@@ -15,40 +15,38 @@ pub slots-loop-j-init : goal.slots-loop-j-init
 slots-loop-j-init t c = storing_start _ _ _
 
 pub slots-slot_at-slot-requires : goal.slots-slot_at-slot-requires
-slots-slot_at-slot-requires t c = gone_read (λ i. (c.type_inv.image i).fits) c.requires.0 c.open_slots-j-end.ensures (omega arith)
+slots-slot_at-slot-requires t c = (gone (λ i. (c.type_inv.image i).fits) c.requires.0 c.open_slots-j-end.ensures c.loop-j-test.true).read
 
 pub slots-loop-j-preserved-then-slot-eq0 : goal.slots-loop-j-preserved-then-slot-eq0
-slots-loop-j-preserved-then-slot-eq0 t c = storing_as c.loop-j.invariant (gone_empty (λ i. (c.type_inv.image i).fits) c.requires.0 c.open_slots-j-end.ensures (omega arith) c.slot_at-slot.ensures c.if-slot-eq0.true)
+slots-loop-j-preserved-then-slot-eq0 t c = storing_as c.loop-j.invariant (gone_empty (gone (λ i. (c.type_inv.image i).fits) c.requires.0 c.open_slots-j-end.ensures c.loop-j-test.true) c.slot_at-slot.ensures c.if-slot-eq0.true)
 
 pub slots-child-child-requires : goal.slots-child-child-requires
-slots-child-child-requires t c = gone_low (λ i. (c.type_inv.image i).fits) {j = c.loop-j.j} c.requires.0 c.open_slots-j-end.ensures (omega arith)
+slots-child-child-requires t c = (gone (λ i. (c.type_inv.image i).fits) c.requires.0 c.open_slots-j-end.ensures c.loop-j-test.true).low
 
 pub slots-magic_at-requires : goal.slots-magic_at-requires
 slots-magic_at-requires t c =
-    let k = (gone_child (λ i. (c.type_inv.image i).fits) c.requires.0 c.open_slots-j-end.ensures (omega arith) c.slot_at-slot.ensures c.if-slot-eq0.false c.child-child.ensures) in
+    let k = gone_child (gone (λ i. (c.type_inv.image i).fits) c.requires.0 c.open_slots-j-end.ensures c.loop-j-test.true) c.slot_at-slot.ensures c.if-slot-eq0.false c.child-child.ensures in
     omega (arith, (object-stands (λ i. (c.type_inv.image i).fits) k.there.object).standing.fits)
 
 pub slots-own-requires : goal.slots-own-requires
-slots-own-requires t c = (gone_child (λ i. (c.type_inv.image i).fits) c.requires.0 c.open_slots-j-end.ensures (omega arith) c.slot_at-slot.ensures c.if-slot-eq0.false c.child-child.ensures).there.object
+slots-own-requires t c = (gone_child (gone (λ i. (c.type_inv.image i).fits) c.requires.0 c.open_slots-j-end.ensures c.loop-j-test.true) c.slot_at-slot.ensures c.if-slot-eq0.false c.child-child.ensures).there.object
 
 pub slots-overflow_add-at : goal.slots-overflow_add-at
 slots-overflow_add-at t c = omega (arith, c.loop-j.invariant.left, c.requires.1)
 
 pub slots-loop-j-preserved-then-magic_at-ne-SFDE : goal.slots-loop-j-preserved-then-magic_at-ne-SFDE
 slots-loop-j-preserved-then-magic_at-ne-SFDE t c =
-    let k = (gone_child (λ i. (c.type_inv.image i).fits) c.requires.0 c.open_slots-j-end.ensures (omega arith) c.slot_at-slot.ensures c.if-slot-eq0.false c.child-child.ensures) in
+    let k = gone_child (gone (λ i. (c.type_inv.image i).fits) c.requires.0 c.open_slots-j-end.ensures c.loop-j-test.true) c.slot_at-slot.ensures c.if-slot-eq0.false c.child-child.ensures in
     storing_on c.loop-j.invariant _ _ (child-lines k)
     (stores_file _ _ c.own.ensures (no_directory (λ i. (c.type_inv.image i).fits) k.there.object c.magic_at.ensures c.if-magic_at-ne-SFDE.true))
 
 pub slots-object-at-requires : goal.slots-object-at-requires
 slots-object-at-requires t c =
-    let k = (gone_child (λ i. (c.type_inv.image i).fits) c.requires.0 c.open_slots-j-end.ensures (omega arith) c.slot_at-slot.ensures c.if-slot-eq0.false c.child-child.ensures) in (
-      omega (arith, c.decreases, k.below, gone_low (λ i. (c.type_inv.image i).fits) {j = c.loop-j.j} c.requires.0 c.open_slots-j-end.ensures (omega arith)),
-      (k.there, child-room k c.loop-j.at 4294967296 (omega (arith, c.loop-j.invariant.left, c.requires.1))),
-    )
+    let k = gone_child (gone (λ i. (c.type_inv.image i).fits) c.requires.0 c.open_slots-j-end.ensures c.loop-j-test.true) c.slot_at-slot.ensures c.if-slot-eq0.false c.child-child.ensures in
+    (omega (arith, c.decreases, k.below), (k.there, child-room k c.loop-j.at 4294967296 (omega (arith, c.loop-j.invariant.left, c.requires.1))))
 
 pub slots-loop-j-preserved : goal.slots-loop-j-preserved
-slots-loop-j-preserved t c = storing_on c.loop-j.invariant _ _ (child-lines (gone_child (λ i. (c.type_inv.image i).fits) c.requires.0 c.open_slots-j-end.ensures (omega arith) c.slot_at-slot.ensures c.if-slot-eq0.false c.child-child.ensures)) c.object-at.ensures
+slots-loop-j-preserved t c = storing_on c.loop-j.invariant _ _ (child-lines (gone_child (gone (λ i. (c.type_inv.image i).fits) c.requires.0 c.open_slots-j-end.ensures c.loop-j-test.true) c.slot_at-slot.ensures c.if-slot-eq0.false c.child-child.ensures)) c.object-at.ensures
 
 pub slots-returns : goal.slots-returns
 slots-returns t c = storing_end c.loop-j.invariant (held_none _ _ _ _ _ (omega (arith, c.open_slots-j-end.ensures)))
