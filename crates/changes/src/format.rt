@@ -7,8 +7,8 @@ ghost use Rattle.calls.specs.Answers.{outcome_of};
 ghost use Rattle.changes.specs.Changing as spec;
 ghost use Rattle.changes.specs.Answers.{Changes};
 
-use alloc::place::Placing;
-use alloc::{access, block};
+use alloc::block::Kind;
+use alloc::access;
 use calls::refusal::{Reason, Refusal};
 use storage::{Pos, Ref};
 use tree::fields;
@@ -19,8 +19,8 @@ fn fresh(image: &mut [u8], slots: u32)
     ensures { image.new ≡ volume.image (spec.formatted (length image.old) slots) }
 {
     alloc::create::empty(image, Ref(2));
-    let placed = alloc::place::block(image, block::SFDE, fields::directory_size(slots));
-    let Placing::At(root) = placed else {
+    let placed = alloc::place::block(image, Kind::Directory, fields::directory_size(slots));
+    let Some(root) = placed else {
         return;
     };
     access::write_ref(image, root, Pos(0), root);

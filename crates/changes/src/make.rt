@@ -1,6 +1,7 @@
 // Make directory and make file: a name and an object in the lowest empty slot of a directory.
 
 ghost use Rattle.std.specs.Prelude.{◌≡◌, true, ◌≤◌, length};
+ghost use Rattle.alloc.specs.Answers.{kind_magic};
 ghost use Rattle.alloc.specs.Block.{size_at};
 ghost use Rattle.alloc.specs.Room.{after_update};
 ghost use Rattle.alloc.specs.Sound.{Holds};
@@ -8,8 +9,8 @@ ghost use Rattle.calls.specs.Answers.{DirectoryIn, outcome_of};
 ghost use Rattle.changes.specs.Changing as spec;
 ghost use Rattle.changes.specs.Answers.{new_of, ref_of, magic_for, size_for, parent_field, Vacant, Makes, Named};
 
-use alloc::pair::Pair;
-use alloc::{access, block, pair};
+use alloc::block::Kind;
+use alloc::{access, pair};
 use calls::refusal::{Reason, Refusal};
 use calls::{slots, walk};
 use storage::{Pos, Ref};
@@ -31,12 +32,12 @@ fn allowed(new: New) -> bool
     }
 }
 
-fn magic_of(new: New) -> u32
-    ensures { result ≡ magic_for (new_of new) }
+fn kind_of(new: New) -> Kind
+    ensures { kind_magic result ≡ magic_for (new_of new) }
 {
     match new {
-        New::Directory(_) => block::SFDE,
-        New::File(_) => block::SFRE,
+        New::Directory(_) => Kind::Directory,
+        New::File(_) => Kind::File,
     }
 }
 
@@ -67,14 +68,14 @@ fn fill(image: &mut [u8], d: Ref, i: usize, name: &[u8], new: New) -> Result<Ref
     requires { Vacant image.old d.0 i name.now (new_of new) }
     ensures { Makes (spec.fill_slot image.old (new_of new) name.now d.0 i) (outcome_of result) (ref_of result) image.new }
 {
-    let placed = pair::place(image, name.len() as u32, magic_of(new), size_of(new));
-    let Pair::At(n, o) = placed else {
+    let placed = pair::place(image, name.len() as u32, kind_of(new), size_of(new));
+    let Some(pair) = placed else {
         return Err(Refusal::For(Reason::NoRoom));
     };
-    access::copy_in(image, n, Pos(0), name);
-    write_parent(image, o, new, d);
-    crate::slot::set(image, d, i, n, o);
-    Ok(o)
+    access::copy_in(image, pair.name, Pos(0), name);
+    write_parent(image, pair.object, new, d);
+    crate::slot::set(image, d, i, pair.name, pair.object);
+    Ok(pair.object)
 }
 
 // In the directory at `d`: refused, or made.

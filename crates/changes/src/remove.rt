@@ -8,6 +8,7 @@ ghost use Rattle.calls.specs.Answers.{ObjectAt, DirectoryIn, outcome_of};
 ghost use Rattle.changes.specs.Changing as spec;
 ghost use Rattle.changes.specs.Answers.{Changes, TakenSlot};
 
+use alloc::block::Kind;
 use alloc::{block, release};
 use calls::refusal::{Reason, Refusal};
 use calls::{slots, walk};
@@ -19,7 +20,7 @@ fn holds_some(image: &[u8], r: Ref) -> bool
     requires { ObjectAt image.now r.0 }
     ensures { result ≡ not (eqb (taken_count (slots (block_in image.now r.0))) 0) }
 {
-    if block::magic_at(image, r) != block::SFDE {
+    if !block::is(image, r, Kind::Directory) {
         return false;
     }
     fields::taken_count(image, r) != 0

@@ -40,7 +40,7 @@ write_ref-requires c =
     c.requires.3
     c.empty.ensures
     c.directory_size.ensures c.block-placed.ensures
-    (ap placed_at c.in-At.is)
+    (ap placed_at c.in-Some.is)
 
 pub returns : goal.returns
 returns c =
@@ -50,5 +50,5 @@ returns c =
     c.requires.3
     c.empty.ensures
     c.directory_size.ensures
-    c.block-placed.ensures (ap placed_at c.in-At.is)
+    c.block-placed.ensures (ap placed_at c.in-Some.is)
     c.write_ref.ensures

@@ -13,19 +13,19 @@ pub size_of-requires : goal.size_of-requires
 size_of-requires c = c.requires.bounds
 
 pub place-placed-requires : goal.place-placed-requires
-place-placed-requires c = (vacant-sound (λ i. (c.slice_known-1.given i).fits) c.requires, name-object c.requires.name, object-told c.magic_of.ensures c.size_of.ensures (new_object (new_of c.args.new) c.requires.bounds))
+place-placed-requires c = (vacant-sound (λ i. (c.slice_known-1.given i).fits) c.requires, name-object c.requires.name, object-told c.kind_of.ensures c.size_of.ensures (new_object (new_of c.args.new) c.requires.bounds))
 
 pub returns-in_default : goal.returns-in_default
-returns-in_default c = fill_none (λ i. (c.slice_known-1.given i).fits) c.requires (pair_told c.magic_of.ensures c.size_of.ensures (ap pair_at c.in_default.is) c.place-placed.ensures)
+returns-in_default c = fill_none (λ i. (c.slice_known-1.given i).fits) c.requires (pair_told c.kind_of.ensures c.size_of.ensures (ap pair_at c.in_default.is) c.place-placed.ensures)
 
 pub copy_in-requires : goal.copy_in-requires
-copy_in-requires c = fill_name (λ i. (c.slice_known-1.given i).fits) c.requires (pair_told c.magic_of.ensures c.size_of.ensures (ap pair_at c.in-At.is) c.place-placed.ensures)
+copy_in-requires c = fill_name (λ i. (c.slice_known-1.given i).fits) c.requires (pair_told c.kind_of.ensures c.size_of.ensures (ap pair_at c.in-Some.is) c.place-placed.ensures)
 
 pub write_parent-requires : goal.write_parent-requires
-write_parent-requires c = fill_object (λ i. (c.slice_known-1.given i).fits) c.requires (pair_told c.magic_of.ensures c.size_of.ensures (ap pair_at c.in-At.is) c.place-placed.ensures) c.copy_in.ensures
+write_parent-requires c = fill_object (λ i. (c.slice_known-1.given i).fits) c.requires (pair_told c.kind_of.ensures c.size_of.ensures (ap pair_at c.in-Some.is) c.place-placed.ensures) c.copy_in.ensures
 
 pub set-requires : goal.set-requires
-set-requires c = fill_slot_lem (λ i. (c.slice_known-1.given i).fits) c.requires (pair_told c.magic_of.ensures c.size_of.ensures (ap pair_at c.in-At.is) c.place-placed.ensures) c.copy_in.ensures c.write_parent.ensures
+set-requires c = fill_slot_lem (λ i. (c.slice_known-1.given i).fits) c.requires (pair_told c.kind_of.ensures c.size_of.ensures (ap pair_at c.in-Some.is) c.place-placed.ensures) c.copy_in.ensures c.write_parent.ensures
 
 pub returns : goal.returns
-returns c = fill_done (λ i. (c.slice_known-1.given i).fits) c.requires (pair_told c.magic_of.ensures c.size_of.ensures (ap pair_at c.in-At.is) c.place-placed.ensures) c.copy_in.ensures c.write_parent.ensures c.set.ensures
+returns c = fill_done (λ i. (c.slice_known-1.given i).fits) c.requires (pair_told c.kind_of.ensures c.size_of.ensures (ap pair_at c.in-Some.is) c.place-placed.ensures) c.copy_in.ensures c.write_parent.ensures c.set.ensures

@@ -10,14 +10,14 @@ use mathlib.Core.Path.{◌∙◌, ap}
 use native.Mathlib.Omega.{arith}
 use Rattle.changes.proofs.remove.holds_some.Goals as goal
 
-pub magic_at-requires : goal.magic_at-requires
-magic_at-requires c = omega (arith, (object-at (λ i. (c.type_inv.image i).fits) c.requires).standing.fits)
+pub is-requires : goal.is-requires
+is-requires c = omega (arith, (object-at (λ i. (c.type_inv.image i).fits) c.requires).standing.fits)
 
-pub returns-then-magic_at-ne-SFDE : goal.returns-then-magic_at-ne-SFDE
-returns-then-magic_at-ne-SFDE c = holds_none _ (no_directory (λ i. (c.type_inv.image i).fits) c.requires c.magic_at.ensures c.if-magic_at-ne-SFDE.true)
+pub returns-then-not-is : goal.returns-then-not-is
+returns-then-not-is c = holds_none _ (no_directory (λ i. (c.type_inv.image i).fits) c.requires c.is.ensures c.if-not-is.true)
 
 pub taken_count-requires : goal.taken_count-requires
-taken_count-requires c = (directory-stands (λ i. (c.type_inv.image i).fits) (object-directory (λ i. (c.type_inv.image i).fits) c.requires c.magic_at.ensures c.if-magic_at-ne-SFDE.false)).0
+taken_count-requires c = (directory-stands (λ i. (c.type_inv.image i).fits) (object-directory (λ i. (c.type_inv.image i).fits) c.requires c.is.ensures c.if-not-is.false)).0
 
 pub returns : goal.returns
-returns c = ap (λ (n : ℕ). not (eqb n 0)) (c.taken_count.ensures ∙ ap (λ (b : Block). taken_count (slots b)) (directory-stands (λ i. (c.type_inv.image i).fits) (object-directory (λ i. (c.type_inv.image i).fits) c.requires c.magic_at.ensures c.if-magic_at-ne-SFDE.false)).1)
+returns c = ap (λ (n : ℕ). not (eqb n 0)) (c.taken_count.ensures ∙ ap (λ (b : Block). taken_count (slots b)) (directory-stands (λ i. (c.type_inv.image i).fits) (object-directory (λ i. (c.type_inv.image i).fits) c.requires c.is.ensures c.if-not-is.false)).1)
