@@ -1,7 +1,10 @@
 -- Words stored one behind the other.
-use Prim.Native.Nat.{ℕ, ◌+◌, ◌*◌, ◌/◌, ◌<◌, ◌≤◌}
+use Prim.Native.Nat.{ℕ, ◌+◌, ◌*◌, ◌/◌, ◌<◌, ◌≤◌, min}
 use mathlib.Core.List.{List, [], ◌∷◌, ◌++◌, append_assoc, append-nil}
 use mathlib.Core.Path.{◌≡◌, refl, ap, sym, ◌∙◌}
+use mathlib.Core.Bool.{Bool, true, false}
+use borrow.Author.Tests.{leb-true, leb-false}
+use lib.Dec.{leb}
 use native.Mathlib.Omega.{arith}
 use native.Mathlib.Numerals.{add-one}
 use lib.ListN.{length, take, get_or, length-append}
@@ -51,13 +54,16 @@ module _ {ws s t : List ℕ} {i : ℕ} (w : Spreading ws s t i) where
             ∙ ap (splice s 0) (sym (bytes-append (take i ws) (get_or ws i 0)) ∙ ap bytes_of (sym (take-suc ws i 0 h) ∙ ap (λ (n : ℕ). take n ws) (sym (add-one i))));
       }
 
-  -- no room for another
-  pub spreading_full : length t < 8 * i + 8 → t ≡ spread_over ws s
+  -- all of them, or no room for another
+  pub spreading_end : min (length ws) (length s / 8) ≤ i → t ≡ spread_over ws s
   unfolding spread_over
-  spreading_full h =
-      let n : i ≡ length s / 8 = omega (arith, spreading_length, w.room) in
-      w.is ∙ ap (λ (n : ℕ). splice s 0 (bytes_of (take n ws))) n
-
-  pub spreading_end : length ws ≤ i → t ≡ spread_over ws s
-  unfolding spread_over
-  spreading_end h = w.is ∙ ap (λ (x : List ℕ). splice s 0 (bytes_of x)) (take_all i ws h ∙ sym (take_all (length s / 8) ws (omega (arith, w.few, w.room))))
+  spreading_end h = w.is ∙ ap (λ (x : List ℕ). splice s 0 (bytes_of x)) (go (leb (length ws) i) refl)
+    where
+      go : (q : Bool) → leb (length ws) i ≡ q → take i ws ≡ take (length s / 8) ws
+      go true e =
+          let l : length ws ≤ i = leb-true (length ws) i e in
+          take_all i ws l ∙ sym (take_all (length s / 8) ws (omega (arith, w.room)))
+      go false e =
+          let l : i < length ws = leb-false (length ws) i e in
+          let n : i ≡ length s / 8 = omega (arith, w.room) in
+          ap (λ (k : ℕ). take k ws) n

@@ -27,15 +27,9 @@ pub const FREE: u64 = 0x53466672_00000000;
 pub fn spread(words: &[u64], image: &mut [u8])
     ensures { image.new ≡ spread_over words.now image.old }
 {
-    let mut at: usize = 0;
-    let mut i: usize = 0;
-    while i < words.len() {
-        if image.len() - at < 8 {
-            return;
-        }
-        storage::write_u64(image, Offset(at), words[i]);
-        at += 8;
-        i += 1;
+    let n = words.len().min(image.len() / 8);
+    for i in 0..n {
+        storage::write_u64(image, Offset(8 * i), words[i]);
     }
 }
 
