@@ -15,7 +15,10 @@ use storage::Ref;
 fn print_of(name: &[u8]) -> u16
     ensures { result ≡ print_of name.now }
 {
-    name.iter().fold(0, |h: u16, b| ((u32::from(h) * 251 + u32::from(*b)) % 65536) as u16)
+    name.iter().fold(
+        0,
+        |h: u16, b| ((u32::from(h) * 251 + u32::from(*b)) % 65536) as u16,
+    )
 }
 
 // 16 bits of the data of the block at `r`.

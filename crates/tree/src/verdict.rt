@@ -79,10 +79,8 @@ fn root_stands(image: &[u8], marks: &[u8], root: Ref) -> bool
     requires { Marked image.now marks.now }
     ensures { result ≡ root_stands (objects (volume_of image.now)) root.0 }
 {
-    if !fields::is_directory(marks::kind_at(image, marks, root)) {
-        return false;
-    }
-    fields::parent_of(image, root).0 == root.0
+    fields::is_directory(marks::kind_at(image, marks, root))
+        && fields::parent_of(image, root).0 == root.0
 }
 
 // The first block that fails a test. Free blocks fail none.
@@ -159,10 +157,22 @@ fn later_broken(image: &[u8], marks: &[u8], root: Ref) -> Verdict
     requires { Ready image.now marks.now root.0 }
     ensures { verdict_of result ≡ block_rules (objects (volume_of image.now)) root.0 unbroken }
 {
-    kept(Rule::Naming, first_breaker(image, |r| crate::naming::keeps(marks, root, r)))?;
-    kept(Rule::Depth, first_breaker(image, |r| crate::depth::keeps(image, marks, root, r)))?;
-    kept(Rule::Names, first_breaker(image, |r| crate::names::keeps(image, r)))?;
-    kept(Rule::Files, first_breaker(image, |r| crate::files::keeps(image, r)))
+    kept(
+        Rule::Naming,
+        first_breaker(image, |r| crate::naming::keeps(marks, root, r)),
+    )?;
+    kept(
+        Rule::Depth,
+        first_breaker(image, |r| crate::depth::keeps(image, marks, root, r)),
+    )?;
+    kept(
+        Rule::Names,
+        first_breaker(image, |r| crate::names::keeps(image, r)),
+    )?;
+    kept(
+        Rule::Files,
+        first_breaker(image, |r| crate::files::keeps(image, r)),
+    )
 }
 
 // Rules 4 to 8: one walk where they hold, or else rule by rule.
