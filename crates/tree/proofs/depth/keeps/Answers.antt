@@ -8,13 +8,10 @@ use native.Mathlib.Omega.{arith}
 use Rattle.tree.proofs.depth.keeps.Goals as goal
 
 pub magic_at-requires : goal.magic_at-requires
-magic_at-requires c = omega (arith, c.requires.1.fits)
+magic_at-requires c = omega (arith, c.requires.fits)
 
 pub returns-then-magic_at-ne-SFDE : goal.returns-then-magic_at-ne-SFDE
 returns-then-magic_at-ne-SFDE c = depth-other _ _ _ _ (block-other _ _ (λ e. c.if-magic_at-ne-SFDE.true (c.magic_at.ensures ∙ e)))
-
-pub climb_from-up-requires : goal.climb_from-up-requires
-climb_from-up-requires c = c.requires.0
 
 pub returns-in_default : goal.returns-in_default
 returns-in_default c =
@@ -30,7 +27,7 @@ returns-then-steps-le15 c =
 pub taken_count-requires : goal.taken_count-requires
 taken_count-requires c =
     record {
-      standing = c.requires.1;
+      standing = c.requires;
       magic = sym c.magic_at.ensures
           ∙ c.if-magic_at-ne-SFDE.false;
     }
