@@ -1,7 +1,7 @@
 // 16 bits of each name in a directory, and chains of slots whose names have like bits: what rule 6 compares.
 
 ghost use Rattle.std.specs.Prelude.{◌≡◌, ◌%◌, ◌≤◌, ◌<◌, length};
-ghost use Rattle.tree.specs.Prints.{print_of, PrintIs, Printed, Unchained, Linked, Onward};
+ghost use Rattle.tree.specs.Prints.{print_of, PrintIs, Printed, Unchained, Linked, chain, Onward};
 ghost use Rattle.alloc.specs.Block.{block_of};
 ghost use Rattle.alloc.specs.Sound.{Standing};
 ghost use Rattle.tree.specs.Fields.{total};
@@ -15,7 +15,10 @@ use storage::Ref;
 fn print_of(name: &[u8]) -> u16
     ensures { result ≡ print_of name.now }
 {
-    name.iter().fold(0, |h: u16, b| ((u32::from(h) * 251 + u32::from(*b)) % 65536) as u16)
+    name.iter().fold(
+        0,
+        |h: u16, b| ((u32::from(h) * 251 + u32::from(*b)) % 65536) as u16,
+    )
 }
 
 // 16 bits of the data of the block at `r`.
@@ -70,7 +73,7 @@ pub fn chain_slots(prints: &[u16], heads: &mut [u16], links: &mut [u16], n: usiz
 // The slot after `j` in its chain, or `n`.
 pub fn next_along(prints: &[u16], links: &[u16], j: usize, n: usize) -> usize
     requires { Linked prints.now links.now n × (j < n) × (n ≤ 1024) }
-    ensures { Onward prints.now j n result }
+    ensures { Onward chain prints.now j n result }
 {
     n - usize::from(links[j])
 }

@@ -3,7 +3,6 @@
 ghost use Rattle.std.specs.Prelude.{◌≡◌, ℕ, ◌*◌, ◌/◌, ◌≤◌, ◌<◌, length, take, true, Bool};
 ghost use Rattle.storage.specs.Bytes.{splice};
 ghost use Rattle.alloc.specs.Block.{Block};
-ghost use Rattle.alloc.specs.Marks.{Marked};
 ghost use Rattle.alloc.specs.Sound.{Tiled};
 ghost use Rattle.alloc.specs.Volume.{volume_of, objects, chained};
 ghost use Rattle.tree.specs.Marks.{Later, Slotted, Annotated, Fresh, Judges, Decides, trimmed};
@@ -13,6 +12,7 @@ ghost use Rattle.tree.specs.Answers.{rule_number, place_of, verdict_of, Ready, O
 
 use crate::fields;
 use alloc::block::Kind;
+use alloc::marks::Marks;
 use alloc::{block, marks};
 use storage::Ref;
 
@@ -75,14 +75,10 @@ fn unless(holds: bool) -> Option<Ref>
 }
 
 // Rule 2.
-fn root_stands(image: &[u8], marks: &[u8], root: Ref) -> bool
-    requires { Marked image.now marks.now }
-    ensures { result ≡ root_stands (objects (volume_of image.now)) root.0 }
+fn root_stands(marks: Marks, root: Ref) -> bool
+    ensures { result ≡ root_stands (objects (volume_of marks.entry.image.now)) root.0 }
 {
-    if !fields::is_directory(marks::kind_at(image, marks, root)) {
-        return false;
-    }
-    fields::parent_of(image, root).0 == root.0
+    fields::is_directory(marks.kind_at(root)) && fields::parent_of(marks.image, root).0 == root.0
 }
 
 // The first block that fails a test. Free blocks fail none.
@@ -105,63 +101,75 @@ fn first_breaker<F: Fn(Ref) -> bool>(image: &[u8], keeps: F) -> Option<Ref>
 }
 
 // Whether the object at `r` keeps rules 4 to 7.
-fn keeps_all(image: &[u8], marks: &[u8], root: Ref, r: Ref) -> bool
-    requires { Ready image.now marks.now root.0 × ObjectAt image.now r.0 }
-    ensures { result ≡ true → KeepsAll image.now root.0 r.0 }
+fn keeps_all(marks: Marks, root: Ref, r: Ref) -> bool
+    requires { Ready marks.image.now marks.row.now root.0 × ObjectAt marks.image.now r.0 }
+    ensures { result ≡ true → KeepsAll marks.entry.image.now root.0 r.0 }
 {
-    if !crate::naming::keeps(marks, root, r) {
+    if !crate::naming::keeps(marks.row, root, r) {
         return false;
     }
-    if block::is(image, r, Kind::Name) {
-        return crate::names::valid(image, r);
+    if block::is(marks.image, r, Kind::Name) {
+        return crate::names::valid(marks.image, r);
     }
-    if block::is(image, r, Kind::File) {
-        return crate::files::keeps(image, r);
+    if block::is(marks.image, r, Kind::File) {
+        return crate::files::keeps(marks.image, r);
     }
-    if !crate::depth::keeps(image, marks, root, r) {
+    if !crate::depth::keeps(marks, root, r) {
         return false;
     }
-    crate::names::keeps(image, r)
+    crate::names::keeps(marks.image, r)
 }
 
 // Whether every object does, and the free chain keeps rule 8, in one walk.
-fn none_broken(image: &[u8], marks: &[u8], root: Ref) -> bool
-    requires { Ready image.now marks.now root.0 }
-    ensures { result ≡ true → NoneBroken image.now root.0 × (chained image.now ≡ true) }
+fn none_broken(marks: Marks, root: Ref) -> bool
+    requires { Ready marks.image.now marks.row.now root.0 }
+    ensures { result ≡ true → NoneBroken marks.entry.image.now root.0 × (chained marks.entry.image.now ≡ true) }
 {
-    let len = image.len();
+    let len = marks.image.len();
     let mut r = Ref(2);
     let mut at = storage::start(r).0;
-    let mut next = alloc::chain::begin(image);
+    let mut next = alloc::chain::begin(marks.image);
     let mut behind = false;
     while at < len {
-        if block::is(image, r, Kind::Free) {
+        if block::is(marks.image, r, Kind::Free) {
             if behind | (next.0 != r.0) {
                 return false;
             }
-            next = alloc::chain::next_of(image, r);
+            next = alloc::chain::next_of(marks.image, r);
             behind = true;
         } else {
-            if !keeps_all(image, marks, root, r) {
+            if !keeps_all(marks, root, r) {
                 return false;
             }
             behind = false;
         }
-        r = block::after(image, r);
+        r = block::after(marks.image, r);
         at = storage::start(r).0;
     }
     next.0 == 0
 }
 
 // Rules 4 to 7, in their order, where rule 3 holds and the namings are counted.
-fn later_broken(image: &[u8], marks: &[u8], root: Ref) -> Verdict
-    requires { Ready image.now marks.now root.0 }
-    ensures { verdict_of result ≡ block_rules (objects (volume_of image.now)) root.0 unbroken }
+fn later_broken(marks: Marks, root: Ref) -> Verdict
+    requires { Ready marks.image.now marks.row.now root.0 }
+    ensures { verdict_of result ≡ block_rules (objects (volume_of marks.entry.image.now)) root.0 unbroken }
 {
-    kept(Rule::Naming, first_breaker(image, |r| crate::naming::keeps(marks, root, r)))?;
-    kept(Rule::Depth, first_breaker(image, |r| crate::depth::keeps(image, marks, root, r)))?;
-    kept(Rule::Names, first_breaker(image, |r| crate::names::keeps(image, r)))?;
-    kept(Rule::Files, first_breaker(image, |r| crate::files::keeps(image, r)))
+    kept(
+        Rule::Naming,
+        first_breaker(marks.image, |r| crate::naming::keeps(marks.row, root, r)),
+    )?;
+    kept(
+        Rule::Depth,
+        first_breaker(marks.image, |r| crate::depth::keeps(marks, root, r)),
+    )?;
+    kept(
+        Rule::Names,
+        first_breaker(marks.image, |r| crate::names::keeps(marks.image, r)),
+    )?;
+    kept(
+        Rule::Files,
+        first_breaker(marks.image, |r| crate::files::keeps(marks.image, r)),
+    )
 }
 
 // Rules 4 to 8: one walk where they hold, or else rule by rule.
@@ -169,10 +177,11 @@ fn later_rules(image: &[u8], marks: &[u8], root: Ref) -> Verdict
     requires { Later image.now marks.now root.0 }
     ensures { verdict_of result ≡ verdict_on (objects (volume_of image.now)) (volume_of image.now).root (chained image.now) }
 {
-    if none_broken(image, marks, root) {
+    let marks = Marks { image, row: marks };
+    if none_broken(marks, root) {
         return Ok(());
     }
-    later_broken(image, marks, root)?;
+    later_broken(marks, root)?;
     kept(Rule::Chain, unless(alloc::chain::check(image)))
 }
 
@@ -185,7 +194,7 @@ fn first_unslotted(image: &[u8], marks: &mut [u8]) -> Option<Ref>
     let mut d = Ref(2);
     let mut at = storage::start(d).0;
     while at < len {
-        if !crate::slots::keeps(image, marks, d) {
+        if !crate::slots::keeps(Marks { image, row: marks }, d) {
             return Some(d);
         }
         crate::naming::note_block(image, marks, d);
@@ -202,7 +211,10 @@ fn after_tiling(image: &[u8], marks: &mut [u8]) -> Verdict
     ensures marks { Annotated image.now marks.old marks.new }
 {
     let root = alloc::chain::root(image);
-    kept(Rule::Root, unless(root_stands(image, marks, root)))?;
+    kept(
+        Rule::Root,
+        unless(root_stands(Marks { image, row: marks }, root)),
+    )?;
     kept(Rule::Slots, first_unslotted(image, marks))?;
     later_rules(image, marks, root)
 }

@@ -18,7 +18,7 @@ returns-then-not-is_directory t c =
 
 pub parent_of-requires : goal.parent_of-requires
 parent_of-requires t c =
-    (kind-directory _ _ c.requires.tiled c.kind_at.ensures (sym c.is_directory.ensures ∙ c.if-not-is_directory.false)).0
+    (kind-directory _ _ c.args.marks.marked.tiled c.kind_at.ensures (sym c.is_directory.ensures ∙ c.if-not-is_directory.false)).0
 
 pub returns-in_err-steps : goal.returns-in_err-steps
 returns-in_err-steps t c =
@@ -26,7 +26,7 @@ returns-in_err-steps t c =
     ∙ climb_none _ _ _ c.if-r-root.false _ _ c.if-left-eq0.false
     (kind-is _ _ c.kind_at.ensures (sym c.is_directory.ensures ∙ c.if-not-is_directory.false))
     (c.parent_of.ensures ∙ ap parent
-    (kind-directory _ _ c.requires.tiled c.kind_at.ensures (sym c.is_directory.ensures ∙ c.if-not-is_directory.false)).1)
+    (kind-directory _ _ c.args.marks.marked.tiled c.kind_at.ensures (sym c.is_directory.ensures ∙ c.if-not-is_directory.false)).1)
     (sym (ap climbed c.in_err-steps.was) ∙ c.climb_from.ensures)
 
 pub overflow_add-result : goal.overflow_add-result
@@ -37,5 +37,5 @@ returns t c =
     climb_some _ _ _ c.if-r-root.false _ _ c.if-left-eq0.false
     (kind-is _ _ c.kind_at.ensures (sym c.is_directory.ensures ∙ c.if-not-is_directory.false))
     (c.parent_of.ensures ∙ ap parent
-    (kind-directory _ _ c.requires.tiled c.kind_at.ensures (sym c.is_directory.ensures ∙ c.if-not-is_directory.false)).1) _
+    (kind-directory _ _ c.args.marks.marked.tiled c.kind_at.ensures (sym c.is_directory.ensures ∙ c.if-not-is_directory.false)).1) _
     (sym (ap climbed c.in_ok-steps.was) ∙ c.climb_from.ensures)

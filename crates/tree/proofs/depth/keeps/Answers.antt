@@ -8,13 +8,10 @@ use native.Mathlib.Omega.{arith}
 use Rattle.tree.proofs.depth.keeps.Goals as goal
 
 pub is-requires : goal.is-requires
-is-requires c = omega (arith, c.requires.1.fits)
+is-requires c = omega (arith, c.requires.fits)
 
 pub returns-then-not-is : goal.returns-then-not-is
 returns-then-not-is c = depth-other _ _ _ _ (block-other _ _ (eqb-false _ _ (sym c.is.ensures ∙ c.if-not-is.true)))
-
-pub climb_from-up-requires : goal.climb_from-up-requires
-climb_from-up-requires c = c.requires.0
 
 pub returns-in_default : goal.returns-in_default
 returns-in_default c =
@@ -30,7 +27,7 @@ returns-then-steps-le15 c =
 pub taken_count-requires : goal.taken_count-requires
 taken_count-requires c =
     record {
-      standing = c.requires.1;
+      standing = c.requires;
       magic = eqb-true _ _ (sym c.is.ensures ∙ c.if-not-is.false);
     }
 

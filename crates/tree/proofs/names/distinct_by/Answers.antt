@@ -1,64 +1,29 @@
-use Rattle.tree.proofs.Printing.{room_for}
-use Rattle.tree.proofs.Rows.{apart-end, apart_in, apart_next, apart_on, apart_out, apart-start, directory-is, left-start}
+use Rattle.tree.proofs.Printing.{comparing_start, comparing_on}
+use Rattle.tree.proofs.Rows.{apart-start, apart-end, apart_out, apart_next, left-start, directory-is}
 use Rattle.tree.specs.Rules.{distinct}
-use mathlib.Core.Bool.{not}
-use mathlib.Core.Path.{◌∙◌, ap, refl, sym}
+use mathlib.Core.Path.{◌∙◌, ap, sym}
 use native.Mathlib.Omega.{arith}
 use Rattle.tree.proofs.names.distinct_by.Goals as goal
-use Rattle.tree.proofs.names.distinct_by.Goals.{else-pairs-test, then-pairs-test+then-loop-j-test+then-equal_by}
 
-pub pairs-init : goal.pairs-init
-pairs-init c = (refl, apart-start _ _)
-
-pub overflow_add-j : goal.overflow_add-j
-overflow_add-j c = omega (arith, room_for c.requires.0.directory c.requires.1 c.requires.2)
+pub loop-i-init : goal.loop-i-init
+loop-i-init g c = apart-start _ _
 
 pub loop-j-init : goal.loop-j-init
-loop-j-init c = (c.pairs.invariant.0, apart_in c.pairs.invariant.1)
+loop-j-init g c = comparing_start c.requires.leads c.requires.printed c.requires.all (omega arith) c.loop-i.invariant c.next-j.ensures
 
-pub equal_by-requires : goal.equal_by-requires
-equal_by-requires c = (
-  c.requires.0,
-  c.requires.1,
-  omega
-      (arith, c.requires.2),
-  omega (arith, c.requires.2),
-)
-
-pub overflow_add-j-in-loop-j : goal.overflow_add-j-in-loop-j
-overflow_add-j-in-loop-j c = omega arith
-
-pub loop-j-smaller : goal.loop-j-smaller
-loop-j-smaller c = omega arith
+pub returns-then-equal_by : goal.returns-then-equal_by
+returns-then-equal_by g c =
+    apart_out c.loop-j.invariant.apart (omega (arith, c.requires.all)) (omega (arith, c.requires.all)) (sym c.equal_by.ensures ∙ c.if-equal_by.true)
+    ∙ ap (distinct _) (sym (left-start _ (directory-is c.requires.directory.directory)))
 
 pub loop-j-preserved : goal.loop-j-preserved
-loop-j-preserved c = (
-  c.loop-j.invariant.0,
-  apart_on c.loop-j.invariant.1 (omega (arith, c.requires.2))
-      (sym c.equal_by.ensures ∙ c.if-equal_by.false),
-)
+loop-j-preserved g c =
+    comparing_on c.requires.leads c.requires.printed c.requires.all (omega arith) c.loop-j.invariant (omega arith)
+    (sym c.equal_by.ensures ∙ c.if-equal_by.false) c.next-j-in-loop-j.ensures
 
-pub overflow_add-i : goal.overflow_add-i
-overflow_add-i c = omega arith
-
-pub pairs-smaller : goal.pairs-smaller
-pairs-smaller c = omega arith
-
-pub pairs-preserved : goal.pairs-preserved
-pairs-preserved c = (
-  c.loop-j.invariant.0,
-  apart_next c.loop-j.invariant.1 (omega (arith, c.requires.2))
-      (omega (arith, c.requires.2)),
-)
+pub loop-i-preserved : goal.loop-i-preserved
+loop-i-preserved g c = apart_next c.loop-j.invariant.apart (omega (arith, c.requires.all)) (omega (arith, c.requires.all))
 
 pub returns : goal.returns
-returns c =
-    elim c.pairs-test.branch [
-      | else-pairs-test w ↦
-          ap not (w.found-is ∙ c.pairs.invariant.0) ∙ apart-end c.pairs.invariant.1 (omega (arith, c.requires.2)) ∙ ap (distinct _)
-          (sym (left-start _ (directory-is c.requires.0.directory)))
-      | then-pairs-test+then-loop-j-test+then-equal_by w ↦
-          ap not w.found-is ∙ apart_out w.loop-j.invariant.1 (omega (arith, c.requires.2)) (omega (arith, c.requires.2))
-          (sym w.equal_by.ensures ∙ w.if-equal_by.true)
-          ∙ ap (distinct _) (sym (left-start _ (directory-is c.requires.0.directory)))
-    ]
+returns g c =
+    apart-end c.loop-i.invariant (omega (arith, c.requires.all)) ∙ ap (distinct _) (sym (left-start _ (directory-is c.requires.directory.directory)))

@@ -1,38 +1,17 @@
 -- equal: both taken, then by the names' data.
-use Rattle.tree.proofs.Tests.{equal_first, equal_second, equal_stand, equal_both}
+use Rattle.tree.proofs.Rows.{slot-names}
+use Rattle.tree.proofs.Tests.{equal_stand, equal_both}
+use Rattle.tree.specs.Answers.{slot_of}
 use Rattle.tree.proofs.names.equal.Goals as goal
-
-pub slot_at-s-requires : goal.slot_at-s-requires
-slot_at-s-requires c = (c.requires.0.directory, c.requires.1)
-
-pub slot_at-o-requires : goal.slot_at-o-requires
-slot_at-o-requires c = (c.requires.0.directory, c.requires.2)
-
-pub returns-then-object-eq0 : goal.returns-then-object-eq0
-returns-then-object-eq0 c =
-    equal_first c.requires.0 c.requires.1
-    c.requires.2 c.slot_at-s.ensures c.slot_at-o.ensures
-    c.if-object-eq0.true
-
-pub returns-then-other-eq0 : goal.returns-then-other-eq0
-returns-then-other-eq0 c =
-    equal_second c.requires.0 c.requires.1
-    c.requires.2 c.slot_at-s.ensures
-    c.slot_at-o.ensures c.if-other-eq0.true
 
 pub equal_data-requires : goal.equal_data-requires
 equal_data-requires c =
-    equal_stand c.requires.0
-    c.requires.1
-    c.requires.2
-    c.slot_at-s.ensures c.slot_at-o.ensures
-    c.if-object-eq0.false c.if-other-eq0.false
+    equal_stand c.requires.0 c.requires.1 c.requires.2 c.slot_at-s.ensures c.slot_at-o.ensures
+    (slot-names (slot_of c.slot_at-s.result) c.is_taken.ensures c.if-not-is_taken.false)
+    (slot-names (slot_of c.slot_at-o.result) c.is_taken-2.ensures c.if-is_taken.true)
 
-pub returns : goal.returns
-returns c =
-    equal_both c.requires.0
-    c.requires.1
-    c.requires.2
-    c.slot_at-s.ensures
-    c.slot_at-o.ensures c.if-object-eq0.false
-    c.if-other-eq0.false _ c.equal_data.ensures
+pub returns-then-is_taken : goal.returns-then-is_taken
+returns-then-is_taken c =
+    equal_both c.requires.0 c.requires.1 c.requires.2 c.slot_at-s.ensures c.slot_at-o.ensures
+    (slot-names (slot_of c.slot_at-s.result) c.is_taken.ensures c.if-not-is_taken.false)
+    (slot-names (slot_of c.slot_at-o.result) c.is_taken-2.ensures c.if-is_taken.true) _ c.equal_data.ensures

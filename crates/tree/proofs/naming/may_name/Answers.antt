@@ -10,11 +10,11 @@ returns-then-not-is_directory c = ap not c.if-not-is_directory.true ∙ right_ot
 
 pub parent_of-requires : goal.parent_of-requires
 parent_of-requires c =
-    (kind-directory _ _ c.requires.tiled c.kind_at.ensures
+    (kind-directory _ _ c.args.marks.marked.tiled c.kind_at.ensures
     (sym c.is_directory.ensures ∙ c.if-not-is_directory.false)).0
 
 pub returns-else-not-is_directory : goal.returns-else-not-is_directory
 returns-else-not-is_directory c =
     let q = sym c.is_directory.ensures ∙ c.if-not-is_directory.false in
-    let k = kind-directory _ _ c.requires.tiled c.kind_at.ensures q in
+    let k = kind-directory _ _ c.args.marks.marked.tiled c.kind_at.ensures q in
     right_parent _ _ _ (kind-is _ _ c.kind_at.ensures q) _ c.parent_of.ensures k.1

@@ -8,16 +8,13 @@ pub loop-i-init : goal.loop-i-init
 loop-i-init c = record { so_far = refl }
 
 pub slot_at-requires : goal.slot_at-requires
-slot_at-requires c = (c.requires.1, omega (arith, c.slot_count-i-end.ensures))
-
-pub stands-requires : goal.stands-requires
-stands-requires c = c.requires.0
+slot_at-requires c = (c.requires, omega (arith, c.slot_count-i-end.ensures))
 
 pub returns-then-not-stands : goal.returns-then-not-stands
 returns-then-not-stands c =
     stood_out c.loop-i.invariant (omega (arith, c.slot_count-i-end.ensures))
     (ap (slot_stands _) (sym c.slot_at.ensures) ∙ sym c.stands.ensures ∙ c.if-not-stands.true)
-    ∙ ap (slots_stand _) (sym (left-start _ (directory-is c.requires.1)))
+    ∙ ap (slots_stand _) (sym (left-start _ (directory-is c.requires)))
 
 pub loop-i-preserved : goal.loop-i-preserved
 loop-i-preserved c =
@@ -27,4 +24,4 @@ loop-i-preserved c =
 pub returns : goal.returns
 returns c =
     stood_end c.loop-i.invariant (omega (arith, c.slot_count-i-end.ensures)) ∙ ap (slots_stand _)
-    (sym (left-start _ (directory-is c.requires.1)))
+    (sym (left-start _ (directory-is c.requires)))

@@ -5,4 +5,4 @@ use Rattle.tree.proofs.Rows.{Standing-so_far}
 use Rattle.tree.proofs.slots.all_stand.Given as goal
 
 abbrev pub invariant-loop-i : goal.invariant-loop-i
-invariant-loop-i l = Standing-so_far (objects (volume_of l.image)) (block_of l.image l.r.0) l.i
+invariant-loop-i l = Standing-so_far (objects (volume_of l.marks.image.now)) (block_of l.marks.image.now l.r.0) l.i

@@ -8,7 +8,7 @@ pub loop-at-init : goal.loop-at-init
 loop-at-init c = rw c.start-at.ensures (slots-start c.requires.marked)
 
 pub keeps-requires : goal.keeps-requires
-keeps-requires c = (c.loop-at.invariant.folds.annotated.marked, cut_standing c.loop-at.invariant.folds.cut (omega arith))
+keeps-requires c = cut_standing c.loop-at.invariant.folds.cut (omega arith)
 
 pub shape_of-marks-then-not-keeps : goal.shape_of-marks-then-not-keeps
 shape_of-marks-then-not-keeps c = c.loop-at.invariant.folds.long

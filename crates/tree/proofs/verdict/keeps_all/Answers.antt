@@ -39,7 +39,7 @@ returns-then-is-2 c = λ t.
     (sym t ∙ c.keeps-then-is-2.ensures)
 
 pub keeps-requires-2 : goal.keeps-requires-2
-keeps-requires-2 c = (c.requires.0.marked, c.requires.1.standing)
+keeps-requires-2 c = c.requires.1.standing
 
 pub returns-then-not-keeps-2 : goal.returns-then-not-keeps-2
 returns-then-not-keeps-2 c = λ e. never_true e

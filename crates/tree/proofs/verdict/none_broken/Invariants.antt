@@ -6,7 +6,7 @@ use lib.ListN.{length}
 use Rattle.tree.proofs.verdict.none_broken.Given as goal
 
 abbrev pub invariant-loop-at : goal.invariant-loop-at
-invariant-loop-at l = WalksAll l.image l.root.0 l.r.0 l.at × Links l.image l.behind l.next.0 l.r.0 l.at
+invariant-loop-at l = WalksAll l.marks.image.now l.root.0 l.r.0 l.at × Links l.marks.image.now l.behind l.next.0 l.r.0 l.at
 
 abbrev pub decreases-loop-at : goal.decreases-loop-at
-decreases-loop-at l = length l.image - l.at
+decreases-loop-at l = length l.marks.image.now - l.at

@@ -1,0 +1,7 @@
+-- all_distinct: by the number of slots, which is at most 1,024.
+use Rattle.tree.proofs.Printing.{few-slots}
+use native.Mathlib.Omega.{arith}
+use Rattle.tree.proofs.names.all_distinct.Goals as goal
+
+pub many_distinct-requires-in_default : goal.many_distinct-requires-in_default
+many_distinct-requires-in_default c = (c.requires, c.slot_count-n.ensures, omega (arith, few-slots c.requires.directory), omega arith)
