@@ -5,11 +5,11 @@ use mathlib.Core.List.{List, [], ◌++◌, ◌∷◌, append_assoc, append-nil}
 use mathlib.Core.Path.{◌∙◌, ◌≡◌, ap, refl, subst, sym}
 use native.Mathlib.Omega.{arith}
 use lib.Dec.{leb}
-use lib.ListN.{drop, length, length-append, length-take, take, take-append-drop}
-use lib.Seq.{drop-drop, length-take-le, take_all, take-nil}
+use lib.ListN.{drop, length, length-append, length-take, set, take, take-append-drop}
+use lib.Seq.{length-take-le, take_all, take-nil}
 use borrow.Author.Tests.{leb-false, leb-true}
 use Rattle.storage.specs.Bytes.{splice}
-use Rattle.storage.proofs.Splice.{length-splice, splice-append, splice-left, splice_none}
+use Rattle.storage.proofs.Splice.{length-splice, sets_splice, splice-append, splice-left, splice_none}
 use Rattle.alloc.specs.Volume.{objects, volume_of}
 use Rattle.calls.specs.Reading.{block_in}
 use Rattle.tree.specs.Fields.{is_dir}
@@ -19,10 +19,17 @@ use Rattle.listing.specs.Numbers.{Stores, StoresTo, numbers_of, seven_of}
 use Rattle.listing.proofs.Held.{count-file, held_none, own_first}
 use Rattle.history.specs.Listing.{Line}
 
--- a part of a row that is copied over
-pub part-spliced : (s : List ℕ) (a k : ℕ) (x : List ℕ) → k ≡ length x → take a s ++ (x ++ drop k (drop a s)) ≡ splice s a x
-unfolding splice
-part-spliced s a k x e = ap (λ (v : List ℕ). take a s ++ (x ++ v)) (drop-drop k a s ∙ ap (λ (n : ℕ). drop (a + n) s) e)
+-- seven stores
+pub store_seven : (s : List ℕ) (p a b c d e f g : ℕ) → p + 7 ≤ length s
+    → set (set (set (set (set (set (set s p a) (p + 1) b) (p + 2) c) (p + 3) d) (p + 4) e) (p + 5) f) (p + 6) g ≡ splice s p (a ∷ b ∷ c ∷ d ∷ e ∷ f ∷ g ∷ [])
+store_seven s p a b c d e f g h =
+    let k1 : p + 1 ≡ suc p = omega arith in
+    let k2 : p + 2 ≡ suc (suc p) = omega arith in
+    let k3 : p + 3 ≡ suc (suc (suc p)) = omega arith in
+    let k4 : p + 4 ≡ suc (suc (suc (suc p))) = omega arith in
+    let k5 : p + 5 ≡ suc (suc (suc (suc (suc p)))) = omega arith in
+    let k6 : p + 6 ≡ suc (suc (suc (suc (suc (suc p))))) = omega arith in
+    rw (k1, k2, k3, k4, k5, k6) (sets_splice (a ∷ b ∷ c ∷ d ∷ e ∷ f ∷ g ∷ []) s p h)
 
 -- ---- rows of lines
 
