@@ -132,12 +132,13 @@ module _ (s : List ℕ) (x : Node) {i : ℕ} {m m' : List ℕ} (v : Stores i (ow
   pub stores_object : {k : ℕ} {m'' : List ℕ} → Stores (i + 1) (lines_in s x 0) m' k m'' → Stores i (lines_at s x) m k m''
   stores_object {k} {m''} w = subst (λ (ls : List Line). Stores i ls m k m'') (sym own_lines) (stores_both (omega arith) v (as_long m v.same_size w))
 
-  -- a file: its own line alone
-  pub stores_file : is_dir (block_in s x.at.0) ≡ false → Stores i (lines_at s x) m (i + 1) m'
-  stores_file e =
+  -- a file, whose node is y: its own line alone
+  pub stores_file : {y : Node} → x ≡ y → is_dir (block_in s y.at.0) ≡ false → Stores i (lines_at s x) m (i + 1) m'
+  stores_file {y} q e =
+      let f : is_dir (block_in s x.at.0) ≡ false = ap (λ (v : Node). is_dir (block_in s v.at.0)) q ∙ e in
       subst (λ (ls : List Line). Stores i ls m (i + 1) m')
       (sym (own_lines ∙ ap (λ (ls : List Line). own_line s x ∷ ls)
-      (held_none (objects (volume_of s)) x.at.0 x.depth (levels x.depth) 0 (omega (arith, count-file (block_in s x.at.0) (levels x.depth) e))))) v
+      (held_none (objects (volume_of s)) x.at.0 x.depth (levels x.depth) 0 (omega (arith, count-file (block_in s x.at.0) (levels x.depth) f))))) v
 
 -- room for all is room for what follows the first
 pub object-behind : (s : List ℕ) (x : Node) (i : ℕ) {m : ℕ} → i + length (lines_at s x) ≤ m → i + 1 + length (lines_in s x 0) ≤ m
