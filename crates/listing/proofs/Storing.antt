@@ -5,11 +5,11 @@ use mathlib.Core.List.{List, [], ◌++◌, ◌∷◌, append_assoc, append-nil}
 use mathlib.Core.Path.{◌∙◌, ◌≡◌, ap, refl, subst, sym}
 use native.Mathlib.Omega.{arith}
 use lib.Dec.{leb}
-use lib.ListN.{drop, length, length-append, length-take, take, take-append-drop}
-use lib.Seq.{drop-drop, length-take-le, take_all, take-nil}
+use lib.ListN.{drop, length, length-append, length-take, set, take, take-append-drop}
+use lib.Seq.{length-take-le, take_all, take-nil}
 use borrow.Author.Tests.{leb-false, leb-true}
 use Rattle.storage.specs.Bytes.{splice}
-use Rattle.storage.proofs.Splice.{length-splice, splice-append, splice-left, splice_none}
+use Rattle.storage.proofs.Splice.{length-splice, sets_splice, splice-append, splice-left, splice_none}
 use Rattle.alloc.specs.Volume.{objects, volume_of}
 use Rattle.calls.specs.Reading.{block_in}
 use Rattle.tree.specs.Fields.{is_dir}
@@ -19,10 +19,17 @@ use Rattle.listing.specs.Numbers.{Stores, StoresTo, numbers_of, seven_of}
 use Rattle.listing.proofs.Held.{count-file, held_none, own_first}
 use Rattle.history.specs.Listing.{Line}
 
--- a part of a row that is copied over
-pub part-spliced : (s : List ℕ) (a k : ℕ) (x : List ℕ) → k ≡ length x → take a s ++ (x ++ drop k (drop a s)) ≡ splice s a x
-unfolding splice
-part-spliced s a k x e = ap (λ (v : List ℕ). take a s ++ (x ++ v)) (drop-drop k a s ∙ ap (λ (n : ℕ). drop (a + n) s) e)
+-- seven stores
+pub store_seven : (s : List ℕ) (p a b c d e f g : ℕ) → p + 7 ≤ length s
+    → set (set (set (set (set (set (set s p a) (p + 1) b) (p + 2) c) (p + 3) d) (p + 4) e) (p + 5) f) (p + 6) g ≡ splice s p (a ∷ b ∷ c ∷ d ∷ e ∷ f ∷ g ∷ [])
+store_seven s p a b c d e f g h =
+    let k1 : p + 1 ≡ suc p = omega arith in
+    let k2 : p + 2 ≡ suc (suc p) = omega arith in
+    let k3 : p + 3 ≡ suc (suc (suc p)) = omega arith in
+    let k4 : p + 4 ≡ suc (suc (suc (suc p))) = omega arith in
+    let k5 : p + 5 ≡ suc (suc (suc (suc (suc p)))) = omega arith in
+    let k6 : p + 6 ≡ suc (suc (suc (suc (suc (suc p))))) = omega arith in
+    rw (k1, k2, k3, k4, k5, k6) (sets_splice (a ∷ b ∷ c ∷ d ∷ e ∷ f ∷ g ∷ []) s p h)
 
 -- ---- rows of lines
 
@@ -125,12 +132,13 @@ module _ (s : List ℕ) (x : Node) {i : ℕ} {m m' : List ℕ} (v : Stores i (ow
   pub stores_object : {k : ℕ} {m'' : List ℕ} → Stores (i + 1) (lines_in s x 0) m' k m'' → Stores i (lines_at s x) m k m''
   stores_object {k} {m''} w = subst (λ (ls : List Line). Stores i ls m k m'') (sym own_lines) (stores_both (omega arith) v (as_long m v.same_size w))
 
-  -- a file: its own line alone
-  pub stores_file : is_dir (block_in s x.at.0) ≡ false → Stores i (lines_at s x) m (i + 1) m'
-  stores_file e =
+  -- a file, whose node is y: its own line alone
+  pub stores_file : {y : Node} → x ≡ y → is_dir (block_in s y.at.0) ≡ false → Stores i (lines_at s x) m (i + 1) m'
+  stores_file {y} q e =
+      let f : is_dir (block_in s x.at.0) ≡ false = ap (λ (v : Node). is_dir (block_in s v.at.0)) q ∙ e in
       subst (λ (ls : List Line). Stores i ls m (i + 1) m')
       (sym (own_lines ∙ ap (λ (ls : List Line). own_line s x ∷ ls)
-      (held_none (objects (volume_of s)) x.at.0 x.depth (levels x.depth) 0 (omega (arith, count-file (block_in s x.at.0) (levels x.depth) e))))) v
+      (held_none (objects (volume_of s)) x.at.0 x.depth (levels x.depth) 0 (omega (arith, count-file (block_in s x.at.0) (levels x.depth) f))))) v
 
 -- room for all is room for what follows the first
 pub object-behind : (s : List ℕ) (x : Node) (i : ℕ) {m : ℕ} → i + length (lines_at s x) ≤ m → i + 1 + length (lines_in s x 0) ≤ m

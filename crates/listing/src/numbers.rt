@@ -37,25 +37,16 @@ pub fn second_of(k: Kind) -> u64
     }
 }
 
-// A line as seven numbers.
-fn seven_of(l: Line) -> [u64; 7]
-    ensures { result ≡ seven_of (line_is l) }
-{
-    [
-        l.at.0,
-        l.parent.0,
-        l.name.0,
-        l.depth,
-        u64::from(directory_of(l.kind)),
-        first_of(l.kind),
-        second_of(l.kind),
-    ]
-}
-
 // The seven numbers of a line, from `at` on.
 pub fn put(numbers: &mut [u64], at: usize, l: Line)
     requires { at + 7 ≤ length numbers.old }
     ensures { numbers.new ≡ splice numbers.old at (seven_of (line_is l)) }
 {
-    numbers[at..at + 7].copy_from_slice(&seven_of(l));
+    numbers[at] = l.at.0;
+    numbers[at + 1] = l.parent.0;
+    numbers[at + 2] = l.name.0;
+    numbers[at + 3] = l.depth;
+    numbers[at + 4] = u64::from(directory_of(l.kind));
+    numbers[at + 5] = first_of(l.kind);
+    numbers[at + 6] = second_of(l.kind);
 }

@@ -48,13 +48,12 @@ fn slots(image: &[u8], numbers: &mut [u64], node: Node, i: usize) -> usize
         if slot.object.0 == 0 {
             continue;
         }
-        let child = lines::child(node, slot);
-        if block::magic_at(image, child.at) != block::SFDE {
-            own(image, numbers, child, at);
+        if block::magic_at(image, slot.object) != block::SFDE {
+            own(image, numbers, lines::child(node, slot), at);
             at += 1;
             continue;
         }
-        at = object(image, numbers, child, at);
+        at = object(image, numbers, lines::child(node, slot), at);
     }
     at
 }

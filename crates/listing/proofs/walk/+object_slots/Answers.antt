@@ -2,6 +2,7 @@
 use Rattle.calls.proofs.Stands.{no_directory, object-at as object-stands}
 use Rattle.listing.proofs.Held.{child-lines, child-room, gone, gone_child, gone_empty, held_none}
 use Rattle.listing.proofs.Storing.{object-behind, storing_as, storing_end, storing_on, storing_start, stores_file, stores_object}
+use mathlib.Core.Path.{refl}
 use native.Mathlib.Omega.{arith}
 use Rattle.listing.proofs.walk.+object_slots.Goals as goal
 
@@ -20,33 +21,37 @@ slots-slot_at-slot-requires t c = (gone (λ i. (c.type_inv.image i).fits) c.requ
 pub slots-loop-j-preserved-then-slot-eq0 : goal.slots-loop-j-preserved-then-slot-eq0
 slots-loop-j-preserved-then-slot-eq0 t c = storing_as c.loop-j.invariant (gone_empty (gone (λ i. (c.type_inv.image i).fits) c.requires.0 c.open_slots-j-end.ensures c.loop-j-test.true) c.slot_at-slot.ensures c.if-slot-eq0.true)
 
-pub slots-child-child-requires : goal.slots-child-child-requires
-slots-child-child-requires t c = (gone (λ i. (c.type_inv.image i).fits) c.requires.0 c.open_slots-j-end.ensures c.loop-j-test.true).low
-
 pub slots-magic_at-requires : goal.slots-magic_at-requires
 slots-magic_at-requires t c =
-    let k = gone_child (gone (λ i. (c.type_inv.image i).fits) c.requires.0 c.open_slots-j-end.ensures c.loop-j-test.true) c.slot_at-slot.ensures c.if-slot-eq0.false c.child-child.ensures in
-    omega (arith, (object-stands (λ i. (c.type_inv.image i).fits) k.there.object).standing.fits)
+    let g = gone (λ i. (c.type_inv.image i).fits) c.requires.0 c.open_slots-j-end.ensures c.loop-j-test.true in
+    omega (arith, (object-stands (λ i. (c.type_inv.image i).fits) (gone_child g c.slot_at-slot.ensures c.if-slot-eq0.false refl).there.object).standing.fits)
+
+pub slots-child-requires : goal.slots-child-requires
+slots-child-requires t c = (gone (λ i. (c.type_inv.image i).fits) c.requires.0 c.open_slots-j-end.ensures c.loop-j-test.true).low
+
+pub slots-child-requires-in-loop-j : goal.slots-child-requires-in-loop-j
+slots-child-requires-in-loop-j t c = (gone (λ i. (c.type_inv.image i).fits) c.requires.0 c.open_slots-j-end.ensures c.loop-j-test.true).low
 
 pub slots-own-requires : goal.slots-own-requires
-slots-own-requires t c = (gone_child (gone (λ i. (c.type_inv.image i).fits) c.requires.0 c.open_slots-j-end.ensures c.loop-j-test.true) c.slot_at-slot.ensures c.if-slot-eq0.false c.child-child.ensures).there.object
+slots-own-requires t c = (gone_child (gone (λ i. (c.type_inv.image i).fits) c.requires.0 c.open_slots-j-end.ensures c.loop-j-test.true) c.slot_at-slot.ensures c.if-slot-eq0.false c.child.ensures).there.object
 
 pub slots-overflow_add-at : goal.slots-overflow_add-at
 slots-overflow_add-at t c = omega (arith, c.loop-j.invariant.left, c.requires.1)
 
 pub slots-loop-j-preserved-then-magic_at-ne-SFDE : goal.slots-loop-j-preserved-then-magic_at-ne-SFDE
 slots-loop-j-preserved-then-magic_at-ne-SFDE t c =
-    let k = gone_child (gone (λ i. (c.type_inv.image i).fits) c.requires.0 c.open_slots-j-end.ensures c.loop-j-test.true) c.slot_at-slot.ensures c.if-slot-eq0.false c.child-child.ensures in
-    storing_on c.loop-j.invariant _ _ (child-lines k)
-    (stores_file _ _ c.own.ensures (no_directory (λ i. (c.type_inv.image i).fits) k.there.object c.magic_at.ensures c.if-magic_at-ne-SFDE.true))
+    let g = gone (λ i. (c.type_inv.image i).fits) c.requires.0 c.open_slots-j-end.ensures c.loop-j-test.true in
+    let o = (gone_child g c.slot_at-slot.ensures c.if-slot-eq0.false refl).there.object in
+    storing_on c.loop-j.invariant _ _ (child-lines (gone_child g c.slot_at-slot.ensures c.if-slot-eq0.false c.child.ensures))
+    (stores_file _ _ c.own.ensures c.child.ensures (no_directory (λ i. (c.type_inv.image i).fits) o c.magic_at.ensures c.if-magic_at-ne-SFDE.true))
 
 pub slots-object-at-requires : goal.slots-object-at-requires
 slots-object-at-requires t c =
-    let k = gone_child (gone (λ i. (c.type_inv.image i).fits) c.requires.0 c.open_slots-j-end.ensures c.loop-j-test.true) c.slot_at-slot.ensures c.if-slot-eq0.false c.child-child.ensures in
+    let k = gone_child (gone (λ i. (c.type_inv.image i).fits) c.requires.0 c.open_slots-j-end.ensures c.loop-j-test.true) c.slot_at-slot.ensures c.if-slot-eq0.false c.child-in-loop-j.ensures in
     (omega (arith, c.decreases, k.below), (k.there, child-room k c.loop-j.at 4294967296 (omega (arith, c.loop-j.invariant.left, c.requires.1))))
 
 pub slots-loop-j-preserved : goal.slots-loop-j-preserved
-slots-loop-j-preserved t c = storing_on c.loop-j.invariant _ _ (child-lines (gone_child (gone (λ i. (c.type_inv.image i).fits) c.requires.0 c.open_slots-j-end.ensures c.loop-j-test.true) c.slot_at-slot.ensures c.if-slot-eq0.false c.child-child.ensures)) c.object-at.ensures
+slots-loop-j-preserved t c = storing_on c.loop-j.invariant _ _ (child-lines (gone_child (gone (λ i. (c.type_inv.image i).fits) c.requires.0 c.open_slots-j-end.ensures c.loop-j-test.true) c.slot_at-slot.ensures c.if-slot-eq0.false c.child-in-loop-j.ensures)) c.object-at.ensures
 
 pub slots-returns : goal.slots-returns
 slots-returns t c = storing_end c.loop-j.invariant (held_none _ _ _ _ _ (omega (arith, c.open_slots-j-end.ensures)))
