@@ -2,6 +2,7 @@
 
 ghost use Rattle.std.specs.Prelude.{◌≡◌, cond, map, length};
 ghost use Rattle.calls.specs.Refusal.{accepted};
+ghost use Rattle.calls.specs.Answers.{outcome_of};
 ghost use Rattle.listing.specs.Answers.{line_is, filled, Fillable, AnswersFor, Lists};
 ghost use Rattle.history.specs.Listing as spec;
 
@@ -11,43 +12,41 @@ use crate::walk;
 use calls::refusal;
 use calls::refusal::{Reason, Refusal};
 
-// The refusal, and how many lines the image has.
+// Whether the call is refused, and how many lines the image has.
 #[derive(Clone, Copy)]
 pub struct Listed {
-    pub refusal: Refusal,
+    pub outcome: Result<(), Refusal>,
     pub count: u64,
 }
 
 // The answer where so many lines are lent.
 pub fn answer(image: &[u8], lent: usize) -> Listed
-    ensures { AnswersFor image.now lent result.refusal result.count }
+    ensures { AnswersFor image.now lent (outcome_of result.outcome) result.count }
 {
-    let own = calls::check::check(image);
-    if refusal::number(own) != 0 {
+    if let Err(own) = calls::check::check(image) {
         return Listed {
-            refusal: own,
+            outcome: Err(own),
             count: 0,
         };
     }
     let count = walk::count(image);
     if (lent as u64) < count {
         return Listed {
-            refusal: Refusal::For(Reason::TooFewLines),
+            outcome: Err(Refusal::For(Reason::TooFewLines)),
             count,
         };
     }
     Listed {
-        refusal: Refusal::Accepted,
+        outcome: Ok(()),
         count,
     }
 }
 
 // How many lines are filled: on a refusal none.
 pub fn to_fill(a: Listed) -> usize
-    ensures { result ≡ cond (accepted a.refusal) a.count 0 }
+    ensures { result ≡ cond (accepted (outcome_of a.outcome)) a.count 0 }
 {
-    let r = a.refusal;
-    if refusal::number(r) != 0 {
+    if refusal::number(&a.outcome) != 0 {
         return 0;
     }
     a.count as usize
@@ -71,7 +70,7 @@ fn fill(image: &[u8], lines: &mut [Line], n: usize)
 
 // A line for every object of the image, the root first.
 pub fn list(image: &[u8], lines: &mut [Line]) -> Listed
-    ensures { Lists (spec.list image.now (map line_is lines.old)) result.refusal result.count lines.new }
+    ensures { Lists (spec.list image.now (map line_is lines.old)) (outcome_of result.outcome) result.count lines.new }
 {
     let a = answer(image, lines.len());
     let n = to_fill(a);
