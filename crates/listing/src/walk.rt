@@ -11,7 +11,7 @@ ghost use Rattle.history.specs.Listing.{lines_of};
 
 use crate::lines::Node;
 use crate::{lines, numbers};
-use alloc::block;
+use alloc::block::{self, Kind};
 use storage::Ref;
 use tree::fields;
 
@@ -48,7 +48,7 @@ fn slots(image: &[u8], numbers: &mut [u64], node: Node, i: usize) -> usize
         if slot.object.0 == 0 {
             continue;
         }
-        if block::magic_at(image, slot.object) != block::SFDE {
+        if !block::is(image, slot.object, Kind::Directory) {
             own(image, numbers, lines::child(node, slot), at);
             at += 1;
             continue;

@@ -21,8 +21,8 @@ slots-slot_at-slot-requires t c = (gone (λ i. (c.type_inv.image i).fits) c.requ
 pub slots-loop-j-preserved-then-slot-eq0 : goal.slots-loop-j-preserved-then-slot-eq0
 slots-loop-j-preserved-then-slot-eq0 t c = storing_as c.loop-j.invariant (gone_empty (gone (λ i. (c.type_inv.image i).fits) c.requires.0 c.open_slots-j-end.ensures c.loop-j-test.true) c.slot_at-slot.ensures c.if-slot-eq0.true)
 
-pub slots-magic_at-requires : goal.slots-magic_at-requires
-slots-magic_at-requires t c =
+pub slots-is-requires : goal.slots-is-requires
+slots-is-requires t c =
     let g = gone (λ i. (c.type_inv.image i).fits) c.requires.0 c.open_slots-j-end.ensures c.loop-j-test.true in
     omega (arith, (object-stands (λ i. (c.type_inv.image i).fits) (gone_child g c.slot_at-slot.ensures c.if-slot-eq0.false refl).there.object).standing.fits)
 
@@ -38,12 +38,12 @@ slots-own-requires t c = (gone_child (gone (λ i. (c.type_inv.image i).fits) c.r
 pub slots-overflow_add-at : goal.slots-overflow_add-at
 slots-overflow_add-at t c = omega (arith, c.loop-j.invariant.left, c.requires.1)
 
-pub slots-loop-j-preserved-then-magic_at-ne-SFDE : goal.slots-loop-j-preserved-then-magic_at-ne-SFDE
-slots-loop-j-preserved-then-magic_at-ne-SFDE t c =
+pub slots-loop-j-preserved-then-not-is : goal.slots-loop-j-preserved-then-not-is
+slots-loop-j-preserved-then-not-is t c =
     let g = gone (λ i. (c.type_inv.image i).fits) c.requires.0 c.open_slots-j-end.ensures c.loop-j-test.true in
     let o = (gone_child g c.slot_at-slot.ensures c.if-slot-eq0.false refl).there.object in
     storing_on c.loop-j.invariant _ _ (child-lines (gone_child g c.slot_at-slot.ensures c.if-slot-eq0.false c.child.ensures))
-    (stores_file _ _ c.own.ensures c.child.ensures (no_directory (λ i. (c.type_inv.image i).fits) o c.magic_at.ensures c.if-magic_at-ne-SFDE.true))
+    (stores_file _ _ c.own.ensures c.child.ensures (no_directory (λ i. (c.type_inv.image i).fits) o c.is.ensures c.if-not-is.true))
 
 pub slots-object-at-requires : goal.slots-object-at-requires
 slots-object-at-requires t c =
