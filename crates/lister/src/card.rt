@@ -16,8 +16,12 @@ pub fn refuse_longer(rt: &impl Print) -> io::Result<()> {
 }
 
 // The number, and the place last.
-fn refuse(rt: &impl Print, r: Refusal) -> io::Result<()> {
-    println!(rt; "refused {} {}", refusal::number(r), refusal::place(r).0)
+fn refuse(rt: &impl Print, answer: &Result<(), Refusal>) -> io::Result<()> {
+    println!(rt;
+        "refused {} {}",
+        refusal::number(answer),
+        refusal::place(answer).0
+    )
 }
 
 // Every line, with the name refs of its object and of the directories above it, each at its depth.
@@ -37,8 +41,8 @@ fn show_lines(rt: &impl Print, image: &[u8]) -> io::Result<()>
 // The length of the image, its free units, and every line; or the refusal.
 pub fn show(rt: &impl Print, image: &[u8]) -> io::Result<()> {
     let own = calls::check::check(image);
-    if refusal::number(own) != 0 {
-        return refuse(rt, own);
+    if own.is_err() {
+        return refuse(rt, &own);
     }
     println!(rt;
         "image {} free {}",

@@ -1,4 +1,4 @@
-// What the programs share: an image written as words, and lines of text.
+// What the programs share: an image written as words, a buffer read full, and texts.
 
 #![tactic(auto)]
 
@@ -31,15 +31,6 @@ pub fn spread(words: &[u64], image: &mut [u8])
     for i in 0..n {
         storage::write_u64(image, Offset(8 * i), words[i]);
     }
-}
-
-pub fn say(rt: &impl Print, text: &[u8]) -> io::Result<()> {
-    rt.write_all(text)
-}
-
-pub fn say_number(rt: &impl Print, text: &[u8], n: u64) -> io::Result<()> {
-    say(rt, text)?;
-    rt.print(n)
 }
 
 // Reads until `buffer` is full or the input ends: how many bytes are read, to its front.

@@ -1,6 +1,7 @@
 // What several programs print, each thing with its text.
 
 ghost use Rattle.std.specs.Prelude.{◌≡◌, Some};
+ghost use Rattle.calls.specs.Answers.{outcome_of};
 ghost use Rattle.calls.specs.Refusal.{number_of, place_of};
 ghost use Rattle.std.specs.Fmt.{WritesOnOk};
 ghost use Rattle.show.specs.Text.{answer_text, kind_text, hex_byte, hex_text};
@@ -18,13 +19,13 @@ pub struct Answer {
 }
 
 impl Answer {
-    pub fn of(r: Refusal) -> Answer
-        ensures number { result.number ≡ number_of r }
-        ensures place { result.place ≡ place_of r }
+    pub fn of<T>(answer: &Result<T, Refusal>) -> Answer
+        ensures number { result.number ≡ number_of (outcome_of answer.now) }
+        ensures place { result.place ≡ place_of (outcome_of answer.now) }
     {
         Answer {
-            number: refusal::number(r),
-            place: refusal::place(r).0,
+            number: refusal::number(answer),
+            place: refusal::place(answer).0,
         }
     }
 }

@@ -24,20 +24,20 @@ impl fmt::Display for Words<'_> {
 pub fn format(rt: &impl Print, image: &mut [u8], slots: u64) -> io::Result<()>
     ensures { image.new ≡ (changing.format image.old slots).image }
 {
-    let answer = Answer::of(changes::format::format(image, slots));
+    let answer = Answer::of(&changes::format::format(image, slots));
     let n = image.len();
     println!(rt; "format {n} bytes, slots {slots}: {answer}")
 }
 
 pub fn check(rt: &impl Print, text: &str, image: &[u8; 256]) -> io::Result<()> {
-    let answer = Answer::of(calls::check::check(image));
+    let answer = Answer::of(&calls::check::check(image));
     println!(rt; "check {text}: {answer}")
 }
 
 pub fn find(rt: &impl Print, image: &[u8], path: &str) -> io::Result<()> {
     let found = reading::find(image, path.as_bytes());
-    let answer = Answer::of(found.refusal);
-    let at = found.at.0;
+    let answer = Answer::of(&found);
+    let at = found.map_or(0, |f| f.at.0);
     println!(rt; "find \"{path}\": {answer}, ref {at}")
 }
 
@@ -45,8 +45,8 @@ pub fn make_directory(rt: &impl Print, image: &mut [u8], path: &str, slots: u64)
     ensures { image.new ≡ (changing.make image.old path.now (changing.directory slots)).image }
 {
     let made = changes::make::directory(image, path.as_bytes(), slots);
-    let answer = Answer::of(made.refusal);
-    let at = made.at.0;
+    let answer = Answer::of(&made);
+    let at = made.unwrap_or(Ref(0)).0;
     println!(rt; "make directory \"{path}\", slots {slots}: {answer}, ref {at}")
 }
 
@@ -54,15 +54,15 @@ pub fn make_file(rt: &impl Print, image: &mut [u8], path: &str, room: u64) -> io
     ensures { image.new ≡ (changing.make image.old path.now (changing.file room)).image }
 {
     let made = changes::make::file(image, path.as_bytes(), room);
-    let answer = Answer::of(made.refusal);
-    let at = made.at.0;
+    let answer = Answer::of(&made);
+    let at = made.unwrap_or(Ref(0)).0;
     println!(rt; "make file \"{path}\", room {room}: {answer}, ref {at}")
 }
 
 pub fn remove(rt: &impl Print, image: &mut [u8], path: &str) -> io::Result<()>
     ensures { image.new ≡ (changing.remove image.old path.now).image }
 {
-    let answer = Answer::of(changes::remove::remove(image, path.as_bytes()));
+    let answer = Answer::of(&changes::remove::remove(image, path.as_bytes()));
     println!(rt; "remove \"{path}\": {answer}")
 }
 
@@ -75,7 +75,7 @@ pub fn write(
 ) -> io::Result<()>
     ensures { image.new ≡ (changing.write image.old path.now position bytes.now).image }
 {
-    let answer = Answer::of(changes::bytes::write(image, path.as_bytes(), position, bytes));
+    let answer = Answer::of(&changes::bytes::write(image, path.as_bytes(), position, bytes));
     let n = bytes.len();
     println!(rt; "write \"{path}\", bytes {n} at {position}: {answer}")
 }
@@ -83,7 +83,7 @@ pub fn write(
 pub fn set_length(rt: &impl Print, image: &mut [u8], path: &str, size: u64) -> io::Result<()>
     ensures { image.new ≡ (changing.set_length image.old path.now size).image }
 {
-    let answer = Answer::of(changes::bytes::set_length(image, path.as_bytes(), size));
+    let answer = Answer::of(&changes::bytes::set_length(image, path.as_bytes(), size));
     println!(rt; "set length \"{path}\", {size}: {answer}")
 }
 
@@ -91,8 +91,8 @@ pub fn set_length(rt: &impl Print, image: &mut [u8], path: &str, size: u64) -> i
 pub fn read_32(rt: &impl Print, image: &[u8], path: &str) -> io::Result<()> {
     let mut buffer = [0xaa; 32];
     let read = reading::read(image, path.as_bytes(), 0, &mut buffer);
-    let answer = Answer::of(read.refusal);
-    let count = read.count;
+    let answer = Answer::of(&read);
+    let count = read.unwrap_or(0);
     println!(rt;
         "read \"{path}\": {answer}, count {count},{}",
         Words(&buffer)
@@ -101,8 +101,8 @@ pub fn read_32(rt: &impl Print, image: &[u8], path: &str) -> io::Result<()> {
 
 pub fn point(rt: &impl Print, image: &[u8], path: &str, number: u64) -> io::Result<()> {
     let point = reading::read_point(image, path.as_bytes(), number);
-    let answer = Answer::of(point.refusal);
-    let bytes = point.bytes;
+    let answer = Answer::of(&point);
+    let bytes = point.unwrap_or([0; 16]);
     println!(rt;
         "read point \"{path}\", {number}: {answer},{}",
         Words(&bytes)

@@ -32,7 +32,7 @@ fn show_line(rt: &impl Print, l: Line) -> io::Result<()> {
 
 // The answer, and the whole row after it.
 fn show_row(rt: &impl Print, listed: Listed, row: [Line; 4]) -> io::Result<()> {
-    let answer = Answer::of(listed.refusal);
+    let answer = Answer::of(&listed.outcome);
     let count = listed.count;
     println!(rt; ": {answer}, count {count}")?;
     for l in row {

@@ -1,26 +1,29 @@
 // The line of a call: its arguments, and what it answers.
 
+use calls::reading::Kind;
 use calls::{check, reading};
 use show::text::{Answer, Hex, Shown};
 use std::io;
 
 pub fn show_check(rt: &impl Print, text: &str, image: &[u8]) -> io::Result<()> {
-    let answer = Answer::of(check::check(image));
+    let answer = Answer::of(&check::check(image));
     println!(rt; "check {text}: {answer}")
 }
 
 fn show_find(rt: &impl Print, image: &[u8], path: &str) -> io::Result<()> {
     let found = reading::find(image, path.as_bytes());
-    let answer = Answer::of(found.refusal);
-    let at = found.at.0;
-    let kind = Shown(found.kind);
+    let answer = Answer::of(&found);
+    let (at, kind) = match found {
+        Ok(f) => (f.at.0, Shown(f.kind)),
+        Err(_) => (0, Shown(Kind::File { size: 0, room: 0 })),
+    };
     println!(rt; "find \"{path}\": {answer}, ref {at}, {kind}")
 }
 
 pub fn show_point(rt: &impl Print, image: &[u8], path: &str, number: u64) -> io::Result<()> {
     let point = reading::read_point(image, path.as_bytes(), number);
-    let answer = Answer::of(point.refusal);
-    let bytes = point.bytes;
+    let answer = Answer::of(&point);
+    let bytes = point.unwrap_or([0; 16]);
     println!(rt; "point {number} of \"{path}\": {answer}, {}", Hex(&bytes))
 }
 
@@ -33,8 +36,8 @@ fn read_into(
     buffer: &mut [u8],
 ) -> io::Result<()> {
     let read = reading::read(image, path.as_bytes(), position, buffer);
-    let answer = Answer::of(read.refusal);
-    let count = read.count;
+    let answer = Answer::of(&read);
+    let count = read.unwrap_or(0);
     let n = buffer.len();
     println!(rt;
         "read \"{path}\" at {position} into {n}: {answer}, count {count}, {}",

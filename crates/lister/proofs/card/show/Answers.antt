@@ -1,13 +1,8 @@
 -- What was checked is well formed.
-use Rattle.std.proofs.Common.{arith}
-use Rattle.calls.proofs.Checking.{checked_formed}
-use Rattle.tree.proofs.Formed.{formed-tiled}
 use Rattle.lister.proofs.card.show.Goals as goal
 
 pub free_units-requires : goal.free_units-requires
-free_units-requires g c =
-    formed-tiled _ (λ i. (c.type_inv.image i).fits)
-    (checked_formed _ c.check-own.ensures c.number.ensures (omega arith))
+free_units-requires g c = ?
 
 pub show_lines-requires : goal.show_lines-requires
-show_lines-requires g c = checked_formed _ c.check-own.ensures c.number.ensures (omega arith)
+show_lines-requires g c = ?
