@@ -1,14 +1,17 @@
 -- What the tests `same` and `zeros` say of lists.
-use Prim.Native.Nat.{ℕ, zero, suc, ◌<◌}
+use Prim.Native.Nat.{ℕ, zero, suc, ◌+◌, ◌*◌, ◌/◌, ◌≤◌, ◌<◌}
 use mathlib.Core.List.{List, [], ◌∷◌, ◌++◌}
 use mathlib.Core.Path.{◌≡◌, refl, ap, sym, ◌∙◌}
 use mathlib.Core.Bool.{Bool, true, false, ◌&&◌}
 use native.Mathlib.Omega.{arith}
 use lib.Dec.{eqb}
 use borrow.Author.Tests.{eqb-true, eqb-false, eq-eqb}
-use lib.ListN.{length}
+use lib.ListN.{length, take, drop, length-drop, take-append-drop}
 use lib.Pointwise.{pointwise}
+use lib.Seq.{take-add, length-take-le}
 use Rattle.std.specs.List.{list_all}
+use Rattle.std.specs.Simd.{first_chunks}
+use Rattle.std.proofs.lemmas.List.Folds.{list_all-append}
 use Rattle.storage.specs.Bytes.{be64, u64_at, same, zeros, zeroed}
 use Rattle.storage.proofs.Numbers.{be64-read}
 
@@ -75,6 +78,34 @@ all-zeros (x ∷ s) = go (eqb x 0) (all-zeros s)
     go : (q : Bool) → list_all (λ x. eqb x 0) s ≡ zeros s → (q && list_all (λ x. eqb x 0) s) ≡ elim q [ true ↦ zeros s | false ↦ false ]
     go true e = e
     go false e = refl
+
+-- the same, eight bytes at once: each chunk is compared with eight zeros, and then each byte behind them
+abbrev pub eight_zeros : List ℕ → Bool
+eight_zeros w = pointwise eqb w (zeroed 8)
+
+chunk-zeros : (w : List ℕ) → pointwise eqb w (zeroed (length w)) ≡ list_all (λ x. eqb x 0) w
+chunk-zeros [] = refl
+chunk-zeros (x ∷ w) = ap (λ (q : Bool). eqb x 0 && q) (chunk-zeros w)
+
+chunks-zeros : (k : ℕ) (s : List ℕ) → k * 8 ≤ length s → list_all eight_zeros (first_chunks 8 k s) ≡ list_all (λ x. eqb x 0) (take (k * 8) s)
+chunks-zeros zero s h = refl
+chunks-zeros (suc k) s h =
+    let n : length (take 8 s) ≡ 8 = length-take-le 8 s (omega arith) in
+    let one : eight_zeros (take 8 s) ≡ list_all (λ x. eqb x 0) (take 8 s) =
+    ap (λ (m : ℕ). pointwise eqb (take 8 s) (zeroed m)) (sym n) ∙ chunk-zeros (take 8 s) in
+    let m : 8 + k * 8 ≡ suc k * 8 = omega arith in
+    ap (λ (q : Bool). q && list_all eight_zeros (first_chunks 8 k (drop 8 s))) one
+    ∙ ap (λ (q : Bool). list_all (λ x. eqb x 0) (take 8 s) && q) (chunks-zeros k (drop 8 s) (omega (arith, length-drop 8 s)))
+    ∙ sym (list_all-append (λ x. eqb x 0) (take 8 s) (take (k * 8) (drop 8 s)))
+    ∙ ap (list_all (λ x. eqb x 0)) (sym (take-add 8 (k * 8) s) ∙ ap (λ (j : ℕ). take j s) m)
+
+pub chunks-all : (s : List ℕ) (q : Bool) → q ≡ list_all eight_zeros (first_chunks 8 (length s / 8) s)
+    → (q && list_all (λ x. eqb x 0) (drop (length s / 8 * 8) s)) ≡ list_all (λ x. eqb x 0) s
+chunks-all s q e =
+    let n : ℕ = length s / 8 * 8 in
+    ap (λ (r : Bool). r && list_all (λ x. eqb x 0) (drop n s)) (e ∙ chunks-zeros (length s / 8) s (omega arith))
+    ∙ sym (list_all-append (λ x. eqb x 0) (take n s) (drop n s))
+    ∙ ap (list_all (λ x. eqb x 0)) (take-append-drop n s)
 
 pub zeros_are : (s : List ℕ) → zeros s ≡ true → s ≡ zeroed (length s)
 unfolding zeros
