@@ -41,7 +41,7 @@ fn show_lines(rt: &impl Print, image: &[u8]) -> io::Result<()>
 // The length of the image, its free units, and every line; or the refusal.
 pub fn show(rt: &impl Print, image: &[u8]) -> io::Result<()> {
     let own = calls::check::check(image);
-    if own.is_err() {
+    if refusal::number(&own) != 0 {
         return refuse(rt, &own);
     }
     println!(rt;
