@@ -1,7 +1,8 @@
 -- check: one block judged and marked in each turn.
 use Rattle.alloc.proofs.Marking.{marks-start, marks_on, blank-long, marking_length, marking_long, marking_broken, marking_whole}
 use Rattle.alloc.proofs.Tiles.{tiles_fits}
-use mathlib.Core.Path.{◌∙◌, sym, refl}
+use Rattle.alloc.specs.Marks.{mark_of}
+use mathlib.Core.Path.{ap, ◌∙◌, sym, refl}
 use native.Mathlib.Omega.{arith}
 use Rattle.alloc.proofs.marks.check.Goals as goal
 
@@ -22,25 +23,21 @@ loop-at-init c = rw c.start-at.ensures (marks-start _ (sym c.length_allowed.ensu
 pub stands-requires : goal.stands-requires
 stands-requires c = omega (arith, c.loop-at.invariant.tiles.place)
 
-pub shape_of-marks-then-not-stands : goal.shape_of-marks-then-not-stands
-shape_of-marks-then-not-stands c =
+pub shape_of-marks-in_default : goal.shape_of-marks-in_default
+shape_of-marks-in_default c =
     marking_long c.loop-at.invariant _ c.requires
     c.clear.ensures
 
-pub returns-then-not-stands : goal.returns-then-not-stands
-returns-then-not-stands c =
+pub returns-in_default : goal.returns-in_default
+returns-in_default c =
     marking_broken c.loop-at.invariant _ c.requires
-    c.clear.ensures (omega arith) _ c.stands.ensures c.if-not-stands.true
-
-pub mark_at-requires : goal.mark_at-requires
-mark_at-requires c = omega (arith, tiles_fits c.loop-at.invariant.tiles (omega arith) _ c.stands.ensures c.if-not-stands.false)
+    c.clear.ensures (omega arith) _ (sym c.in_default.ensures) refl
 
 pub bounds-marks-n : goal.bounds-marks-n
 bounds-marks-n c =
     omega (
       arith,
-      tiles_fits c.loop-at.invariant.tiles (omega arith) _ c.stands.ensures
-          c.if-not-stands.false,
+      tiles_fits c.loop-at.invariant.tiles (omega arith) _ (sym c.in-Some.ensures.0) refl,
       marking_long c.loop-at.invariant _
           c.requires
           c.clear.ensures,
@@ -51,16 +48,14 @@ pub after-r-requires : goal.after-r-requires
 after-r-requires c =
     omega (
       arith,
-      tiles_fits c.loop-at.invariant.tiles (omega arith) _ c.stands.ensures
-          c.if-not-stands.false,
+      tiles_fits c.loop-at.invariant.tiles (omega arith) _ (sym c.in-Some.ensures.0) refl,
     )
 
 pub start-at-requires-in-loop-at : goal.start-at-requires-in-loop-at
 start-at-requires-in-loop-at c =
     omega (
       arith,
-      tiles_fits c.loop-at.invariant.tiles (omega arith) _ c.stands.ensures
-          c.if-not-stands.false,
+      tiles_fits c.loop-at.invariant.tiles (omega arith) _ (sym c.in-Some.ensures.0) refl,
       c.after-r.ensures,
     )
 
@@ -70,13 +65,13 @@ loop-at-smaller c =
       arith,
       c.loop-at.invariant.tiles,
       tiles_fits c.loop-at.invariant.tiles
-          (omega arith) _ c.stands.ensures c.if-not-stands.false,
+          (omega arith) _ (sym c.in-Some.ensures.0) refl,
     )
 
 pub loop-at-preserved : goal.loop-at-preserved
 loop-at-preserved c =
-    marks_on c.loop-at.invariant (omega arith) _ c.stands.ensures
-    c.if-not-stands.false _ _ refl c.mark_at.ensures _ _
+    marks_on c.loop-at.invariant (omega arith) _ (sym c.in-Some.ensures.0)
+    refl _ _ refl (c.mark_of.ensures ∙ ap mark_of (sym c.in-Some.ensures.1)) _ _
     c.after-r.ensures c.start-at-in-loop-at.ensures
 
 pub shape_of-marks : goal.shape_of-marks

@@ -25,7 +25,9 @@ pub loop-gap-preserved : goal.loop-gap-preserved
 loop-gap-preserved c =
     let p = met c.loop-gap.invariant.walk c.next.new.self c.in-Some.ensures.steps in
     let e = comes_at p.comes in
-    record { walk = p.walk; trails = subst (λ (i : ℕ). Trails c.args.image.now c.args.t.0 i c.next.new.self.at.0) (sym e) (trails_on c.loop-gap.invariant.trails p.comes.there (omega (arith, e, c.if-t-gap.false)) p.comes.inner p.comes.reads) }
+    let t : Trails c.args.image.now c.args.t.0 c.loop-gap.gap-iterator.at.0 c.next.new.self.at.0 =
+    trails_on c.loop-gap.invariant.trails p.comes.there (omega (arith, e, c.if-t-gap.false)) p.comes.inner p.comes.reads in
+    record { walk = p.walk; trails = subst (λ (i : ℕ). Trails c.args.image.now c.args.t.0 i c.next.new.self.at.0) (sym e) t }
 
 pub returns : goal.returns
 returns c =
