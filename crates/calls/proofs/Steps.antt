@@ -335,10 +335,6 @@ reached-above s path allowed top d f =
 
 -- the last component, as it is read
 module _ (path : List ℕ) {n : ℕ} (e : n ≡ length (components path)) where
-  pub last_none : n ≡ 0 → {w : List ℕ} → w ≡ get_or (components path) 0 [] → w ≡ last_name path
-  unfolding last_name
-  last_none z f = let m : 0 ≡ length (components path) - 1 = omega arith in f ∙ ap (λ (i : ℕ). get_or (components path) i []) m
-
   pub last_some : {w : List ℕ} → w ≡ get_or (components path) (n - 1) [] → w ≡ last_name path
   unfolding last_name
   last_some f = f ∙ ap (λ (i : ℕ). get_or (components path) (i - 1) []) e

@@ -100,9 +100,5 @@ pub fn begin_above(image: &[u8], path: &[u8], allowed: bool, top: Reason) -> Res
 pub fn last_name(path: &[u8]) -> &[u8]
     ensures { result.now ≡ spec.last_name path.now }
 {
-    let n = path::count(path);
-    if n == 0 {
-        return path::component(path, 0);
-    }
-    path::component(path, n - 1)
+    path::component(path, path::count(path).saturating_sub(1))
 }

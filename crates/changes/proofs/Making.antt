@@ -261,6 +261,3 @@ pair_told {s} {t} {k} {m} {n} {m'} {n'} {o} {o'} e f g p =
 
 pub object-told : {m n m' n' : ℕ} → m ≡ m' → n ≡ n' → Object m' n' → Object m n
 object-told {m} {n} {m'} {n'} e f o = subst (λ (x : ℕ). Object x n) (sym e) (subst (λ (x : ℕ). Object m' x) (sym f) o)
-
-pub file-allowed : (n : ℕ) → leb n 65536 ≡ allowed (file n)
-file-allowed n = sym (rw (le-leb 0 n (omega arith)))

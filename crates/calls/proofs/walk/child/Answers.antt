@@ -8,9 +8,6 @@ use mathlib.Core.Option.{none, some}
 use mathlib.Core.Path.{◌∙◌, ap, sym}
 use Rattle.calls.proofs.walk.child.Goals as goal
 
-pub with_name-requires : goal.with_name-requires
-with_name-requires c = c.requires
-
 pub returns-in_default : goal.returns-in_default
 returns-in_default c = ap walked (step-found _ _ c.requires.kind _ none c.in_default.ensures)
 

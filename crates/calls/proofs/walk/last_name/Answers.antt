@@ -1,9 +1,11 @@
 -- last_name: the component before the path's end, or none.
-use Rattle.calls.proofs.Steps.{last_none, last_some}
+use Prim.Native.Nat.{ℕ}
+use lib.ListN.{get_or}
+use mathlib.Core.List.{[]}
+use mathlib.Core.Path.{◌∙◌, ap}
+use Rattle.path.specs.Path.{components}
+use Rattle.calls.proofs.Steps.{last_some}
 use Rattle.calls.proofs.walk.last_name.Goals as goal
 
-pub returns-then-n-eq0 : goal.returns-then-n-eq0
-returns-then-n-eq0 c = last_none _ c.count-n.ensures c.if-n-eq0.true c.component.ensures
-
 pub returns : goal.returns
-returns c = last_some _ c.count-n.ensures c.component-2.ensures
+returns c = last_some _ c.count.ensures (c.component.ensures ∙ ap (λ (i : ℕ). get_or (components c.args.path.now) i []) c.saturating_sub.ensures)

@@ -12,9 +12,6 @@ root-here-requires c = formed-tiled _ (λ i. (c.type_inv.image i).fits) c.requir
 pub loop-i-init : goal.loop-i-init
 loop-i-init c = walking_start (λ i. (c.type_inv.image i).fits) c.requires _ _ c.root-here.ensures
 
-pub take_step-requires : goal.take_step-requires
-take_step-requires c = c.loop-i.invariant.object
-
 pub loop-i-preserved : goal.loop-i-preserved
 loop-i-preserved c =
     walking_on c.loop-i.invariant (λ i. (c.type_inv.image i).fits) (omega (arith, c.count-i-end.ensures)) c.component.ensures _ c.in_ok-here.ensures

@@ -14,12 +14,6 @@ returns-then-not-length_allowed c = format-length _ _ (sym c.length_allowed.ensu
 pub returns-then-slots : goal.returns-then-slots
 returns-then-slots c = format-slots _ _ (sym c.length_allowed.ensures ∙ c.if-not-length_allowed.false) (outside 1 1024 c.args.slots c.if-slots.true)
 
-pub overflow_cast-slots : goal.overflow_cast-slots
-overflow_cast-slots c = omega (arith, inside 1 1024 c.args.slots c.if-slots.false)
-
-pub directory_size-requires : goal.directory_size-requires
-directory_size-requires c = omega (arith, inside 1 1024 c.args.slots c.if-slots.false)
-
 pub returns-then-not-has_room : goal.returns-then-not-has_room
 returns-then-not-has_room c =
     format-room _ _ (sym c.length_allowed.ensures ∙ c.if-not-length_allowed.false)
@@ -30,21 +24,6 @@ returns-then-not-has_room c =
       leb-false (32 + 16 * units_for c.directory_size.result)
           (length c.args.image.now) (sym c.has_room.ensures ∙ c.if-not-has_room.true),
     ))
-
-pub overflow_cast-slots-2 : goal.overflow_cast-slots-2
-overflow_cast-slots-2 c = omega (arith, inside 1 1024 c.args.slots c.if-slots.false)
-
-pub fresh-requires : goal.fresh-requires
-fresh-requires c =
-    let b = inside 1 1024 c.args.slots c.if-slots.false in
-    let h = leb-true (32 + 16 * units_for c.directory_size.result) (length c.args.image.now)
-    (sym c.has_room.ensures ∙ c.if-not-has_room.false) in (
-      sym c.length_allowed.ensures ∙ c.if-not-length_allowed.false,
-      b.0,
-      omega (arith, b),
-      omega
-          (arith, c.directory_size.ensures, h),
-    )
 
 pub returns : goal.returns
 returns c =

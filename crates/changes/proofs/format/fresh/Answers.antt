@@ -4,14 +4,7 @@ use Rattle.alloc.specs.Block.{SFde}
 use Rattle.alloc.specs.Sound.{Object}
 use Rattle.changes.proofs.Formatting.{directory-object, new_sound, root-done, root-fits, root_store}
 use mathlib.Core.Path.{ap, sym, subst}
-use native.Mathlib.Omega.{arith}
 use Rattle.changes.proofs.format.fresh.Goals as goal
-
-pub empty-requires : goal.empty-requires
-empty-requires c = c.requires.0
-
-pub directory_size-requires : goal.directory_size-requires
-directory_size-requires c = omega (arith, c.requires)
 
 pub block-placed-requires : goal.block-placed-requires
 block-placed-requires c =

@@ -3,14 +3,7 @@ use Rattle.alloc.specs.Answers.{pair_at}
 use Rattle.changes.proofs.Making.{fill_done, fill_name, fill_none, fill_object, fill_slot_lem, name-object, new_object, object-told, pair_told, vacant-sound}
 use Rattle.changes.specs.Answers.{new_of}
 use mathlib.Core.Path.{ap}
-use native.Mathlib.Omega.{arith}
 use Rattle.changes.proofs.make.fill.Goals as goal
-
-pub overflow_cast-name : goal.overflow_cast-name
-overflow_cast-name c = omega (arith, c.requires.name.most)
-
-pub size_of-requires : goal.size_of-requires
-size_of-requires c = c.requires.bounds
 
 pub place-placed-requires : goal.place-placed-requires
 place-placed-requires c = (vacant-sound (λ i. (c.slice_known-1.given i).fits) c.requires, name-object c.requires.name, object-told c.kind_of.ensures c.size_of.ensures (new_object (new_of c.args.new) c.requires.bounds))

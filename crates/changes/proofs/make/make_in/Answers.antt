@@ -4,14 +4,8 @@ use Rattle.changes.proofs.Making.{make-filled, make_full, make-there, none_there
 use mathlib.Core.Path.{sym}
 use Rattle.changes.proofs.make.make_in.Goals as goal
 
-pub with_name-requires : goal.with_name-requires
-with_name-requires c = c.requires.0
-
 pub returns-then-is_some : goal.returns-then-is_some
 returns-then-is_some c = make-there _ _ _ _ (some_there c.with_name.result (sym c.if-is_some.ensures) c.with_name.ensures).1
-
-pub empty-requires : goal.empty-requires
-empty-requires c = c.requires.0
 
 pub returns-in_default : goal.returns-in_default
 returns-in_default c = make_full _ _ _ _ (none_there c.with_name.result (sym c.if-is_some.ensures) c.with_name.ensures) c.in_default.ensures

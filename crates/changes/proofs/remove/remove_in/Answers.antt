@@ -6,9 +6,6 @@ use Rattle.tree.specs.Fields.{Slot}
 use mathlib.Core.Path.{ap, subst, sym}
 use Rattle.changes.proofs.remove.remove_in.Goals as goal
 
-pub with_name-requires : goal.with_name-requires
-with_name-requires c = c.requires
-
 pub returns-in_default : goal.returns-in_default
 returns-in_default c = remove-missing _ _ _ c.in_default.ensures
 

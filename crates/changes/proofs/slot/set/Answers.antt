@@ -13,9 +13,6 @@ overflow_mul-i c = omega (arith, held_low c.requires.0, c.requires.1)
 pub overflow_add-i : goal.overflow_add-i
 overflow_add-i c = omega (arith, held_low c.requires.0, c.requires.1)
 
-pub write_ref-requires : goal.write_ref-requires
-write_ref-requires c = (c.requires.0, omega (arith, c.requires.1))
-
 pub overflow_mul-i-2 : goal.overflow_mul-i-2
 overflow_mul-i-2 c = omega (arith, held_low c.requires.0, c.requires.1)
 
