@@ -26,7 +26,6 @@ fn list_file<R: Print + Files>(rt: &R, path: &[u8]) -> io::Result<()> {
 
 // Every argument after the program's name. One that is longer than 64 bytes names no file.
 fn list_arguments(rt: &(impl Print + Files + Env)) -> io::Result<()> {
-<<<<<<< HEAD
     for i in 1..usize::MAX {
         let mut path = [0u8; 64];
         let filled = rt.arg(i, &mut path);
@@ -34,10 +33,6 @@ fn list_arguments(rt: &(impl Print + Files + Env)) -> io::Result<()> {
             break;
         }
         list_file(rt, &path[..filled.unwrap_or(0)])?;
-=======
-    for i in 1..argument_count(rt) {
-        list_argument(rt, i)?;
->>>>>>> h5
     }
     Ok(())
 }
