@@ -23,7 +23,8 @@ loop-line-preserved c =
             ahead = ahead-next a e;
             stored =
                 w.line-items-is ∙ ap (λ (v : List Line). set v c.loop-line.line-index w.in-Some.next) c.loop-line.invariant.stored
-                ∙ ap (set (filled c.args.image.now c.loop-line.line-index (take c.args.n c.args.lines.now)) c.loop-line.line-index) (line-stored c.args.image.now c.loop-line.line-index (ahead-line a e))
+                ∙ ap (set (filled c.args.image.now c.loop-line.line-index (take c.args.n c.args.lines.now)) c.loop-line.line-index)
+                (line-stored c.args.image.now c.loop-line.line-index (ahead-line a e))
                 ∙ filled-next c.args.image.now (take c.args.n c.args.lines.now) c.loop-line.line-index c.loop-line-test.true;
           }
       | in_default w ↦ absurd (omega (arith, ahead-length a, ap length (none-given _ w.in_default.is c.next.ensures.steps), c.requires.there, length-take c.args.n c.args.lines.now))

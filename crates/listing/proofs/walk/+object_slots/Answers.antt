@@ -19,7 +19,9 @@ pub slots-slot_at-slot-requires : goal.slots-slot_at-slot-requires
 slots-slot_at-slot-requires t c = (gone (λ i. (c.type_inv.image i).fits) c.requires.0 c.open_slots-j-end.ensures c.loop-j-test.true).read
 
 pub slots-loop-j-preserved-then-slot-eq0 : goal.slots-loop-j-preserved-then-slot-eq0
-slots-loop-j-preserved-then-slot-eq0 t c = storing_as c.loop-j.invariant (gone_empty (gone (λ i. (c.type_inv.image i).fits) c.requires.0 c.open_slots-j-end.ensures c.loop-j-test.true) c.slot_at-slot.ensures c.if-slot-eq0.true)
+slots-loop-j-preserved-then-slot-eq0 t c =
+    let g = gone (λ i. (c.type_inv.image i).fits) c.requires.0 c.open_slots-j-end.ensures c.loop-j-test.true in
+    storing_as c.loop-j.invariant (gone_empty g c.slot_at-slot.ensures c.if-slot-eq0.true)
 
 pub slots-is-requires : goal.slots-is-requires
 slots-is-requires t c =
@@ -33,7 +35,9 @@ pub slots-child-requires-in-loop-j : goal.slots-child-requires-in-loop-j
 slots-child-requires-in-loop-j t c = (gone (λ i. (c.type_inv.image i).fits) c.requires.0 c.open_slots-j-end.ensures c.loop-j-test.true).low
 
 pub slots-own-requires : goal.slots-own-requires
-slots-own-requires t c = (gone_child (gone (λ i. (c.type_inv.image i).fits) c.requires.0 c.open_slots-j-end.ensures c.loop-j-test.true) c.slot_at-slot.ensures c.if-slot-eq0.false c.child.ensures).there.object
+slots-own-requires t c =
+    let g = gone (λ i. (c.type_inv.image i).fits) c.requires.0 c.open_slots-j-end.ensures c.loop-j-test.true in
+    (gone_child g c.slot_at-slot.ensures c.if-slot-eq0.false c.child.ensures).there.object
 
 pub slots-overflow_add-at : goal.slots-overflow_add-at
 slots-overflow_add-at t c = omega (arith, c.loop-j.invariant.left, c.requires.1)
@@ -47,11 +51,14 @@ slots-loop-j-preserved-then-not-is t c =
 
 pub slots-object-at-requires : goal.slots-object-at-requires
 slots-object-at-requires t c =
-    let k = gone_child (gone (λ i. (c.type_inv.image i).fits) c.requires.0 c.open_slots-j-end.ensures c.loop-j-test.true) c.slot_at-slot.ensures c.if-slot-eq0.false c.child-in-loop-j.ensures in
+    let g = gone (λ i. (c.type_inv.image i).fits) c.requires.0 c.open_slots-j-end.ensures c.loop-j-test.true in
+    let k = gone_child g c.slot_at-slot.ensures c.if-slot-eq0.false c.child-in-loop-j.ensures in
     (omega (arith, c.decreases, k.below), (k.there, child-room k c.loop-j.at 4294967296 (omega (arith, c.loop-j.invariant.left, c.requires.1))))
 
 pub slots-loop-j-preserved : goal.slots-loop-j-preserved
-slots-loop-j-preserved t c = storing_on c.loop-j.invariant _ _ (child-lines (gone_child (gone (λ i. (c.type_inv.image i).fits) c.requires.0 c.open_slots-j-end.ensures c.loop-j-test.true) c.slot_at-slot.ensures c.if-slot-eq0.false c.child-in-loop-j.ensures)) c.object-at.ensures
+slots-loop-j-preserved t c =
+    let g = gone (λ i. (c.type_inv.image i).fits) c.requires.0 c.open_slots-j-end.ensures c.loop-j-test.true in
+    storing_on c.loop-j.invariant _ _ (child-lines (gone_child g c.slot_at-slot.ensures c.if-slot-eq0.false c.child-in-loop-j.ensures)) c.object-at.ensures
 
 pub slots-returns : goal.slots-returns
 slots-returns t c = storing_end c.loop-j.invariant (held_none _ _ _ _ _ (omega (arith, c.open_slots-j-end.ensures)))
