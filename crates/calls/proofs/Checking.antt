@@ -6,14 +6,11 @@ use mathlib.Core.Path.{◌∙◌, ◌≡◌, ap, refl, sym}
 use native.Mathlib.Omega.{arith}
 use lib.ListN.{length}
 use borrow.Author.Tests.{eq-eqb, le-ltb, lt-ltb, ne_eqb}
-use Rattle.storage.proofs.Numbers.{AllBytes}
 use Rattle.tree.specs.declared.verdict.Rule.{Rule}
 use Rattle.tree.specs.declared.verdict.Rule.TheVariants.{Tiling, Root, Slots, Naming, Depth, Names, Files, Chain}
 use Rattle.tree.specs.Answers.{rule_number}
 use Rattle.tree.specs.Marks.{Judges}
-use Rattle.tree.specs.Verdict.{BlockRule, Verdict, rule3, rule4, rule5, rule6, rule7, verdict, well_formed}
-use Rattle.tree.specs.WellFormed.{Judged, breaks, breaks_1, breaks_2, breaks_8, number, is_well_formed}
-use Rattle.tree.proofs.Verdicts.{judged}
+use Rattle.tree.specs.Verdict.{Verdict, verdict, well_formed}
 use Rattle.calls.specs.declared.refusal.Refusal as declared-refusal
 use Rattle.calls.specs.declared.refusal.Refusal.TheVariants as told
 use Rattle.calls.specs.declared.refusal.Reason.TheVariants.{TooFewMarks}

@@ -7,8 +7,8 @@ ghost use Rattle.calls.specs.Answers.{outcome_of};
 ghost use Rattle.changes.specs.Changing as spec;
 ghost use Rattle.changes.specs.Answers.{Changes};
 
-use alloc::block::Kind;
 use alloc::access;
+use alloc::block::Kind;
 use calls::refusal::{Reason, Refusal};
 use storage::{Pos, Ref};
 use tree::fields;
