@@ -80,6 +80,12 @@ u64_written s p n h k =
 -- ---- a number read elsewhere: before what was written, or behind it
 
 module _ (s x : List ℕ) (p : ℕ) (h : p + length x ≤ length s) (q : ℕ) where
+  pub u32_before : q + 4 ≤ p → u32_at (splice s p x) q ≡ u32_at s q
+  u32_before k = u32_agree (splice s p x) s q q (λ i b. splice-before s x p (q + i) h (omega arith))
+
+  pub u32_behind : p + length x ≤ q → u32_at (splice s p x) q ≡ u32_at s q
+  u32_behind k = u32_agree (splice s p x) s q q (λ i b. splice-behind s x p (q + i) h (omega arith))
+
   pub u64_before : q + 8 ≤ p → u64_at (splice s p x) q ≡ u64_at s q
   u64_before k = u64_agree (splice s p x) s q q (λ i b. splice-before s x p (q + i) h (omega arith))
 
