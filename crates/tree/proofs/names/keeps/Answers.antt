@@ -20,12 +20,14 @@ returns-then-is c =
     let m = eqb-true _ _ (sym c.is.ensures ∙ c.if-is.true) in
     names-name _ _ _ (block-name _ _ m) (no_slots _ _ (λ e. omega (arith, m, e))) _ c.valid.ensures
 
-pub all_distinct-requires : goal.all_distinct-requires
-all_distinct-requires c =
+pub invariant_of-all_distinct : goal.invariant_of-all_distinct
+invariant_of-all_distinct c =
     record {
-      tiled = c.requires.0;
-      directory = record { standing = c.requires.1; magic = eqb-true _ _ (sym c.is-2.ensures ∙ c.if-is-2.true) };
-      slots_stand = c.requires.2;
+      sound = record {
+        tiled = c.requires.0;
+        directory = record { standing = c.requires.1; magic = eqb-true _ _ (sym c.is-2.ensures ∙ c.if-is-2.true) };
+        slots_stand = c.requires.2;
+      };
     }
 
 pub returns-then-is-2 : goal.returns-then-is-2

@@ -1,10 +1,9 @@
 -- keeps: the state in the mark.
-use borrow.Author.Tests.{eq-eqb, ne_eqb}
-use mathlib.Core.Path.{sym}
+use mathlib.Core.Path.{sym, ◌∙◌}
 use Rattle.tree.proofs.naming.keeps.Goals as goal
 
-pub returns-then-r-root : goal.returns-then-r-root
-returns-then-r-root c = sym (rw (eq-eqb _ _ c.if-r-root.true))
+pub returns-then-eq : goal.returns-then-eq
+returns-then-eq c = sym (rw (sym c.eq.ensures ∙ c.if-eq.true))
 
 pub returns : goal.returns
-returns c = sym (rw (ne_eqb _ _ c.if-r-root.false))
+returns c = sym (rw (sym c.eq.ensures ∙ c.if-eq.false))
