@@ -1,12 +1,9 @@
 use Rattle.tree.proofs.Printing.{comparing_start, comparing_on}
-use Rattle.tree.proofs.Rows.{apart-start, apart-end, apart_out, apart_next, left-start, directory-is}
+use Rattle.tree.proofs.Rows.{apart-end, apart_out, apart_next, left-start, directory-is}
 use Rattle.tree.specs.Rules.{distinct}
 use mathlib.Core.Path.{refl, ◌∙◌, ap, sym}
 use native.Mathlib.Omega.{arith}
 use Rattle.tree.proofs.names.distinct_by.Goals as goal
-
-pub loop-i-init : goal.loop-i-init
-loop-i-init g c = apart-start _ _
 
 pub loop-j-init : goal.loop-j-init
 loop-j-init g c = comparing_start c.requires.leads c.args.prints.printed refl (omega (arith, c.slot_count-n.ensures)) c.loop-i.invariant c.next-j.ensures

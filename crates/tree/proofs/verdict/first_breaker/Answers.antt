@@ -11,11 +11,6 @@ loop-r-init g c =
     let w = walk_starts c.after_superblock-r-items.ensures c.into_iter-r-iterator.ensures.into_iter_gives in
     record { walk = w.0; visits = rw w.1 (walks_begin c.requires.tiled) }
 
-pub is-requires : goal.is-requires
-is-requires g c =
-    let p = passed c.loop-r.invariant.walk _ c.in-Some.ensures.steps in
-    omega (arith, p.here, p.standing.fits)
-
 pub keeps-requires : goal.keeps-requires
 keeps-requires g c =
     let p = passed c.loop-r.invariant.walk _ c.in-Some.ensures.steps in

@@ -8,9 +8,6 @@ loop-d-init c =
     let w = walk_starts c.after_superblock-d-items.ensures c.into_iter-d-iterator.ensures.into_iter_gives in
     record { walk = w.0; slots = rw w.1 (slots-start c.requires.marked) }
 
-pub invariant_of-keeps : goal.invariant_of-keeps
-invariant_of-keeps c = record { marked = c.loop-d.invariant.slots.folds.annotated.marked }
-
 pub keeps-requires : goal.keeps-requires
 keeps-requires c =
     let p = passed c.loop-d.invariant.walk _ c.in-Some.ensures.steps in
@@ -20,9 +17,6 @@ pub returns-then-not-keeps : goal.returns-then-not-keeps
 returns-then-not-keeps c =
     let p = passed c.loop-d.invariant.walk _ c.in-Some.ensures.steps in
     rw p.here (slots-broken c.loop-d.invariant.slots p.more _ (rw p.here at c.keeps.ensures) c.if-not-keeps.true)
-
-pub shape_of-marks-then-not-keeps : goal.shape_of-marks-then-not-keeps
-shape_of-marks-then-not-keeps c = c.loop-d.invariant.slots.folds.long
 
 pub note_block-requires : goal.note_block-requires
 note_block-requires c =
@@ -37,9 +31,6 @@ loop-d-preserved c =
       slots = slots_on c.loop-d.invariant.slots p.more _ (rw p.here at c.keeps.ensures) c.if-not-keeps.false _
           (rw p.here at c.note_block.ensures) _ _ p.next refl;
     }
-
-pub shape_of-marks : goal.shape_of-marks
-shape_of-marks c = c.loop-d.invariant.slots.folds.long
 
 pub returns : goal.returns
 returns c = slots_end c.loop-d.invariant.slots (passed_all c.loop-d.invariant.walk c.next.new.self c.in-None.ensures.steps)

@@ -2,10 +2,9 @@ use Rattle.alloc.proofs.Links.{links-start, links_end, links-on}
 use Rattle.alloc.proofs.Walking.{walk_starts, passed, passed_all}
 use Rattle.tree.proofs.Joint.{kept_free}
 use Rattle.tree.proofs.Visits.{object_here}
-use Rattle.tree.proofs.Whole.{walks_start, walks_on, walks_end, never_true}
+use Rattle.tree.proofs.Whole.{walks_start, walks_on, walks_end}
 use borrow.Author.Tests.{eqb-true, eqb-false}
 use mathlib.Core.Path.{◌∙◌, sym, refl}
-use native.Mathlib.Omega.{arith}
 use Rattle.tree.proofs.verdict.none_broken.Goals as goal
 use Rattle.tree.proofs.verdict.none_broken.Goals.{else-not-is-via-then-not-is+else-not-keeps_all, else-not-is-via-else-not-is}
 
@@ -23,21 +22,10 @@ pass-requires c =
     let p = passed c.loop-r.invariant.walk _ c.in-Some.ensures.steps in
     rw p.here p.standing
 
-pub returns-then-not-pass : goal.returns-then-not-pass
-returns-then-not-pass c = λ e. never_true e
-
-pub is-requires : goal.is-requires
-is-requires c =
-    let p = passed c.loop-r.invariant.walk _ c.in-Some.ensures.steps in
-    omega (arith, p.here, p.standing.fits)
-
 pub keeps_all-requires : goal.keeps_all-requires
 keeps_all-requires c =
     let p = passed c.loop-r.invariant.walk _ c.in-Some.ensures.steps in
     (c.requires, rw p.here (object_here c.loop-r.invariant.objects.cut p.more (eqb-false _ _ (rw p.here at (sym c.is.ensures ∙ c.if-not-is.true)))))
-
-pub returns-then-not-keeps_all : goal.returns-then-not-keeps_all
-returns-then-not-keeps_all c = λ e. never_true e
 
 pub loop-r-preserved : goal.loop-r-preserved
 loop-r-preserved c =
