@@ -185,6 +185,10 @@ pub ready-naming : {s m : List ℕ} {root r : ℕ} → Ready s m root → Object
     → eqb (get_or m r 0 / 8) (cond (eqb r root) 0 1) ≡ named_once (objects (volume_of s)) root r (block_of s r)
 ready-naming {root = root} k o = rule_4_at k.noted-there o root
 
+pub naming_told : {s m : List ℕ} {root r : ℕ} {t : Bool} → Ready s m root → ObjectAt s r → t ≡ eqb (get_or m r 0 / 8) (cond (eqb r root) 0 1)
+    → t ≡ named_once (objects (volume_of s)) root r (block_of s r)
+naming_told k o e = e ∙ ready-naming k o
+
 pub ready_slots : {s m : List ℕ} {root r : ℕ} → Ready s m root → ObjectAt s r → slots_stand (objects (volume_of s)) (slots (block_of s r)) ≡ true
 ready_slots {s} {root = root} k o = object_holds (keeps rule3 (objects (volume_of s)) root) o k.rule_3
 
