@@ -1,10 +1,10 @@
 -- Walks over the blocks of a tiled image, and along the free chain of a sound one, as iterators give them.
-use Rattle.std.specs.Prelude.{ℕ, ◌+◌, ◌*◌, ◌/◌, ◌≤◌, ◌<◌, List, ◌++◌, ◌≡◌, length, Option, Some, None}
+use Rattle.std.specs.Prelude.{ℕ, ◌+◌, ◌*◌, ◌/◌, ◌≤◌, ◌<◌, List, ◌∷◌, ◌++◌, ◌≡◌, length, Bool, ◌&&◌, Option, Some, None}
 use Rattle.storage.specs.Bytes.{u64_at}
 use Rattle.storage.specs.declared.Ref.{Ref}
 use Rattle.alloc.specs.declared.fit.Gap.{Gap}
-use Rattle.alloc.specs.Block.{units_for, size_at}
-use Rattle.alloc.specs.Volume.{Extent, volume_of}
+use Rattle.alloc.specs.Block.{Block, units, units_for, size_at}
+use Rattle.alloc.specs.Volume.{Extent, volume_of, linked}
 use Rattle.alloc.specs.Sound.{end_of, Tiled, Sound}
 use Rattle.alloc.specs.Steps.{hook_from}
 use Rattle.alloc.specs.Answers.{link_of}
@@ -43,3 +43,7 @@ pub record Comes (s : List ℕ) (h n : ℕ) (g : Gap) (o m : ℕ) : Type 0 where
 abbrev pub Follows : List ℕ → ℕ → ℕ → Option Gap → ℕ → ℕ → Type 0
 Follows s h n None o m = n ≡ 0
 Follows s h n (Some g) o m = Comes s h n g o m
+
+-- the scan for rule 8 passes the block b at ref r: the chain holds from there on where b may stand there and it holds behind b
+abbrev pub Scans : Block → ℕ → Bool → ℕ → Bool → Bool → ℕ → Type 0
+Scans b r behind next stands behind' next' = (bs : List Block) → linked behind next r (b ∷ bs) ≡ (stands && linked behind' next' (r + units b) bs)

@@ -180,19 +180,17 @@ countable root f e z = record { fresh = f; rule_3 = sym e ∙ z }
 
 -- ---- one walk for rules 4 to 7
 
-pub never_true : {C : Type 0} → false ≡ true → C
-never_true e = let z : ◌≡◌ {A = ℕ} 0 1 = cc in absurd (omega arith)
-
 -- what an object is asked by rule 4, and what rule 6 relies on
 pub ready-naming : {s m : List ℕ} {root r : ℕ} → Ready s m root → ObjectAt s r
     → eqb (get_or m r 0 / 8) (cond (eqb r root) 0 1) ≡ named_once (objects (volume_of s)) root r (block_of s r)
 ready-naming {root = root} k o = rule_4_at k.noted-there o root
 
+pub naming_told : {s m : List ℕ} {root r : ℕ} {t : Bool} → Ready s m root → ObjectAt s r → t ≡ eqb (get_or m r 0 / 8) (cond (eqb r root) 0 1)
+    → t ≡ named_once (objects (volume_of s)) root r (block_of s r)
+naming_told k o e = e ∙ ready-naming k o
+
 pub ready_slots : {s m : List ℕ} {root r : ℕ} → Ready s m root → ObjectAt s r → slots_stand (objects (volume_of s)) (slots (block_of s r)) ≡ true
 ready_slots {s} {root = root} k o = object_holds (keeps rule3 (objects (volume_of s)) root) o k.rule_3
-
-pub ready_mark : {s m : List ℕ} {root r : ℕ} → Ready s m root → ObjectAt s r → r < length m
-ready_mark k o = omega (arith, k.marked.long, o.standing.fits)
 
 pub none_verdict : {s : List ℕ} {root : ℕ} → breaker_of rule3 (objects (volume_of s)) root ≡ none → NoneBroken s root → unbroken ≡ block_rules (objects (volume_of s)) root unbroken
 none_verdict {s} {root} e k = sym (blocks-kept (objects (volume_of s)) root go unbroken)

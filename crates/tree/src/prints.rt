@@ -5,9 +5,9 @@ ghost use Rattle.tree.specs.Prints.{print_of, PrintIs, Printed, Unchained, Linke
 ghost use Rattle.alloc.specs.Block.{block_of};
 ghost use Rattle.alloc.specs.Sound.{Standing};
 ghost use Rattle.tree.specs.Fields.{total};
-ghost use Rattle.tree.specs.Answers.{SoundDirectory};
+ghost use Rattle.tree.specs.Directory.{block_in};
 
-use crate::fields;
+use crate::directory::Directory;
 use alloc::access;
 use storage::Ref;
 
@@ -29,26 +29,34 @@ fn print_at(image: &[u8], r: Ref) -> u16
     print_of(access::body(image, r))
 }
 
-// 16 bits of the name in slot `i` of the directory at `r`. Those of an empty slot are any; the slot's number spreads empty slots over the chains.
-fn slot_print(image: &[u8], r: Ref, i: usize) -> u16
-    requires { SoundDirectory image.now r.0 × (i < total (block_of image.now r.0)) }
-    ensures { PrintIs image.now r.0 i result }
+// 16 bits of the name in slot `i`. Those of an empty slot are any; the slot's number spreads empty slots over the chains.
+fn slot_print(d: Directory, i: usize) -> u16
+    requires { i < total (block_in d) }
+    ensures { PrintIs d.entry.image.now d.entry.at.0 i result }
 {
-    let s = fields::slot_at(image, r, i);
+    let s = d.slot_at(i);
     if !s.is_taken() {
         return (i % 1024) as u16;
     }
-    print_at(image, s.name)
+    print_at(d.image, s.name)
 }
 
 // Those of all slots.
-pub fn fill_prints(image: &[u8], r: Ref, prints: &mut [u16])
-    requires { SoundDirectory image.now r.0 × (total (block_of image.now r.0) ≤ length prints.old) }
-    ensures { Printed image.now r.0 prints.new }
+pub fn fill_prints(d: Directory, prints: &mut [u16])
+    requires { total (block_in d) ≤ length prints.old }
+    ensures { Printed d.entry.image.now d.entry.at.0 prints.new }
 {
-    for i in 0..fields::slot_count(image, r) {
-        prints[i] = slot_print(image, r, i);
+    for i in 0..d.slot_count() {
+        prints[i] = slot_print(d, i);
     }
+}
+
+// A directory with the bits of its slots.
+#[derive(Clone, Copy)]
+pub struct Prints<'a> {
+    pub directory: Directory<'a>,
+    pub row: &'a [u16],
+    ghost printed: { Printed directory.image.now directory.at.0 row.now },
 }
 
 // The chain that slots with these bits are in.
@@ -70,10 +78,21 @@ pub fn chain_slots(prints: &[u16], heads: &mut [u16], links: &mut [u16], n: usiz
     }
 }
 
-// The slot after `j` in its chain, or `n`.
-pub fn next_along(prints: &[u16], links: &[u16], j: usize, n: usize) -> usize
-    requires { Linked prints.now links.now n × (j < n) × (n ≤ 1024) }
-    ensures { Onward chain prints.now j n result }
-{
-    n - usize::from(links[j])
+// The first `count` slots, in chains.
+#[derive(Clone, Copy)]
+pub struct Chains<'a> {
+    pub prints: &'a [u16],
+    pub links: &'a [u16],
+    pub count: usize,
+    ghost linked: { Linked prints.now links.now count },
+}
+
+impl Chains<'_> {
+    // The slot after `j` in its chain, or the end.
+    pub fn next(self, j: usize) -> usize
+        requires { (j < self.count) × (self.count ≤ 1024) }
+        ensures { Onward chain self.entry.prints.now j self.entry.count result }
+    {
+        self.count - usize::from(self.links[j])
+    }
 }

@@ -12,6 +12,7 @@ ghost use Rattle.tree.specs.Answers.{rule_number, place_of, verdict_of, Ready, O
 
 use crate::fields;
 use alloc::block::Kind;
+use alloc::chain::Scan;
 use alloc::marks::Marks;
 use alloc::{block, marks};
 use storage::Ref;
@@ -78,7 +79,7 @@ fn unless(holds: bool) -> Option<Ref>
 fn root_stands(marks: Marks, root: Ref) -> bool
     ensures { result ≡ root_stands (objects (volume_of marks.entry.image.now)) root.0 }
 {
-    fields::is_directory(marks.kind_at(root)) && fields::parent_of(marks.image, root).0 == root.0
+    fields::is_directory(marks.kind_at(root)) && fields::parent_of(marks.image, root) == root
 }
 
 // The first block that fails a test. Free blocks fail none.
@@ -87,15 +88,10 @@ fn first_breaker<F: Fn(Ref) -> bool>(image: &[u8], keeps: F) -> Option<Ref>
     requires tested { Asks (F.pre keeps) image.now }
     ensures { (p : ℕ → Block → Bool) → Computes (F.post keeps) image.now p → place_of result ≡ breaker p (objects (volume_of image.now)) }
 {
-    let len = image.len();
-    let mut r = Ref(2);
-    let mut at = storage::start(r).0;
-    while at < len {
+    for r in block::after_superblock(image) {
         if !block::is(image, r, Kind::Free) && !keeps(r) {
             return Some(r);
         }
-        r = block::after(image, r);
-        at = storage::start(r).0;
     }
     None
 }
@@ -125,28 +121,16 @@ fn none_broken(marks: Marks, root: Ref) -> bool
     requires { Ready marks.image.now marks.row.now root.0 }
     ensures { result ≡ true → NoneBroken marks.entry.image.now root.0 × (chained marks.entry.image.now ≡ true) }
 {
-    let len = marks.image.len();
-    let mut r = Ref(2);
-    let mut at = storage::start(r).0;
-    let mut next = alloc::chain::begin(marks.image);
-    let mut behind = false;
-    while at < len {
-        if block::is(marks.image, r, Kind::Free) {
-            if behind | (next.0 != r.0) {
-                return false;
-            }
-            next = alloc::chain::next_of(marks.image, r);
-            behind = true;
-        } else {
-            if !keeps_all(marks, root, r) {
-                return false;
-            }
-            behind = false;
+    let mut scan = Scan::start(marks.image);
+    for r in block::after_superblock(marks.image) {
+        if !scan.pass(marks.image, r) {
+            return false;
         }
-        r = block::after(marks.image, r);
-        at = storage::start(r).0;
+        if !block::is(marks.image, r, Kind::Free) && !keeps_all(marks, root, r) {
+            return false;
+        }
     }
-    next.0 == 0
+    scan.ends()
 }
 
 // Rules 4 to 7, in their order, where rule 3 holds and the namings are counted.
@@ -190,16 +174,11 @@ fn first_unslotted(image: &[u8], marks: &mut [u8]) -> Option<Ref>
     requires { Fresh image.now marks.old }
     ensures { Slotted image.now (place_of result) marks.old marks.new }
 {
-    let len = image.len();
-    let mut d = Ref(2);
-    let mut at = storage::start(d).0;
-    while at < len {
+    for d in block::after_superblock(image) {
         if !crate::slots::keeps(Marks { image, row: marks }, d) {
             return Some(d);
         }
         crate::naming::note_block(image, marks, d);
-        d = block::after(image, d);
-        at = storage::start(d).0;
     }
     None
 }

@@ -1,4 +1,4 @@
--- check: the pass over the blocks, one block a turn.
+-- check: the scan, one block a turn.
 use Prim.Native.Nat.{◌*◌}
 use Rattle.alloc.proofs.Links.{Links}
 use Rattle.alloc.proofs.Walking.{OnBlocks}
@@ -7,5 +7,5 @@ use Rattle.alloc.proofs.chain.check.Given as goal
 abbrev pub invariant-loop-r : goal.invariant-loop-r
 invariant-loop-r l = record {
   walk : OnBlocks l.image l.r-iterator;
-  links : Links l.image l.behind l.next.0 l.r-iterator.next.0 (16 * l.r-iterator.next.0);
+  links : Links l.image l.scan.behind l.scan.next.0 l.r-iterator.next.0 (16 * l.r-iterator.next.0);
 }

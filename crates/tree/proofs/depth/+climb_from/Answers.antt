@@ -3,17 +3,18 @@ use Rattle.std.proofs.Common.{sym, ap, ◌∙◌, arith}
 use Rattle.tree.specs.Fields.{parent}
 use Rattle.tree.specs.Answers.{climbed}
 use Rattle.tree.proofs.Tests.{kind-directory, kind-is, climb_here, climb_out, climb_lost, climb_none, climb_some, climb-low}
+use borrow.Author.Tests.{eqb-true, eqb-false}
 use Rattle.tree.proofs.depth.+climb_from.Goals as goal
 
-pub returns-then-r-root : goal.returns-then-r-root
-returns-then-r-root t c = climb_here _ _ _ _ c.if-r-root.true
+pub returns-then-eq : goal.returns-then-eq
+returns-then-eq t c = climb_here _ _ _ _ (eqb-true _ _ (sym c.eq.ensures ∙ c.if-eq.true))
 
 pub returns-then-left-eq0 : goal.returns-then-left-eq0
-returns-then-left-eq0 t c = climb_out _ _ _ c.if-r-root.false _ c.if-left-eq0.true
+returns-then-left-eq0 t c = climb_out _ _ _ (eqb-false _ _ (sym c.eq.ensures ∙ c.if-eq.false)) _ c.if-left-eq0.true
 
 pub returns-then-not-is_directory : goal.returns-then-not-is_directory
 returns-then-not-is_directory t c =
-    climb_lost _ _ _ c.if-r-root.false _ c.if-left-eq0.false
+    climb_lost _ _ _ (eqb-false _ _ (sym c.eq.ensures ∙ c.if-eq.false)) _ c.if-left-eq0.false
     (kind-is _ _ c.kind_at.ensures (sym c.is_directory.ensures ∙ c.if-not-is_directory.true))
 
 pub parent_of-requires : goal.parent_of-requires
@@ -23,7 +24,7 @@ parent_of-requires t c =
 pub returns-in_err-steps : goal.returns-in_err-steps
 returns-in_err-steps t c =
     ap climbed c.from_residual.ensures
-    ∙ climb_none _ _ _ c.if-r-root.false _ _ c.if-left-eq0.false
+    ∙ climb_none _ _ _ (eqb-false _ _ (sym c.eq.ensures ∙ c.if-eq.false)) _ _ c.if-left-eq0.false
     (kind-is _ _ c.kind_at.ensures (sym c.is_directory.ensures ∙ c.if-not-is_directory.false))
     (c.parent_of.ensures ∙ ap parent
     (kind-directory _ _ c.args.marks.marked.tiled c.kind_at.ensures (sym c.is_directory.ensures ∙ c.if-not-is_directory.false)).1)
@@ -34,7 +35,7 @@ overflow_add-result t c = omega (arith, climb-low _ _ _ _ _ (sym (ap climbed c.i
 
 pub returns : goal.returns
 returns t c =
-    climb_some _ _ _ c.if-r-root.false _ _ c.if-left-eq0.false
+    climb_some _ _ _ (eqb-false _ _ (sym c.eq.ensures ∙ c.if-eq.false)) _ _ c.if-left-eq0.false
     (kind-is _ _ c.kind_at.ensures (sym c.is_directory.ensures ∙ c.if-not-is_directory.false))
     (c.parent_of.ensures ∙ ap parent
     (kind-directory _ _ c.args.marks.marked.tiled c.kind_at.ensures (sym c.is_directory.ensures ∙ c.if-not-is_directory.false)).1) _

@@ -4,11 +4,7 @@ use Rattle.tree.proofs.Tests.{block-other, depth-other, depth_lost, depth_low, d
 use Rattle.tree.specs.Answers.{climbed}
 use borrow.Author.Tests.{le-leb, eqb-true, eqb-false}
 use mathlib.Core.Path.{sym, ap, ◌∙◌}
-use native.Mathlib.Omega.{arith}
 use Rattle.tree.proofs.depth.keeps.Goals as goal
-
-pub is-requires : goal.is-requires
-is-requires c = omega (arith, c.requires.fits)
 
 pub returns-then-not-is : goal.returns-then-not-is
 returns-then-not-is c = depth-other _ _ _ _ (block-other _ _ (eqb-false _ _ (sym c.is.ensures ∙ c.if-not-is.true)))
@@ -23,13 +19,6 @@ returns-then-steps-le15 c =
     le-leb _ _ c.if-steps-le15.true
     ∙ depth_low _ _ _ _ (block-directory _ _ (eqb-true _ _ (sym c.is.ensures ∙ c.if-not-is.false))) _
     (sym (ap climbed c.in-Some.is) ∙ c.climb_from-up.ensures) c.if-steps-le15.true
-
-pub taken_count-requires : goal.taken_count-requires
-taken_count-requires c =
-    record {
-      standing = c.requires;
-      magic = eqb-true _ _ (sym c.is.ensures ∙ c.if-not-is.false);
-    }
 
 pub returns-else-steps-le15 : goal.returns-else-steps-le15
 returns-else-steps-le15 c =

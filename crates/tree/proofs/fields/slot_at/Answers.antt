@@ -20,6 +20,3 @@ overflow_add-i-2 c = omega (arith, slot-inside c.requires.0 _ c.requires.1)
 
 pub read_ref-object-requires : goal.read_ref-object-requires
 read_ref-object-requires c = (c.requires.0.standing, omega (arith, slot-inside c.requires.0 _ c.requires.1))
-
-pub returns : goal.returns
-returns c = λ i. (c.read_ref-name.ensures i, c.read_ref-object.ensures i)

@@ -5,9 +5,6 @@ use mathlib.Core.Path.{sym, ap, ◌∙◌}
 use native.Mathlib.Omega.{arith}
 use Rattle.tree.proofs.fields.slot_count.Goals as goal
 
-pub size_at-requires : goal.size_at-requires
-size_at-requires c = omega (arith, c.requires.standing.fits)
-
 pub overflow_sub-result : goal.overflow_sub-result
 overflow_sub-result c = omega (arith, directory_data_size c.requires, c.size_at.ensures)
 

@@ -1,19 +1,8 @@
-use Rattle.tree.proofs.Rows.{counting_start, counting_on, counting_end, taken-counted, left-start, directory-is}
+use Rattle.tree.proofs.Rows.{counting_on, counting_end, taken-counted, left-start, directory-is}
 use Rattle.tree.specs.Fields.{taken, taken_count}
 use mathlib.Core.Path.{sym, ap, ◌∙◌}
 use native.Mathlib.Omega.{arith}
 use Rattle.tree.proofs.fields.taken_count.Goals as goal
-
-pub loop-i-init : goal.loop-i-init
-loop-i-init c = counting_start taken _
-
-pub slot_at-requires : goal.slot_at-requires
-slot_at-requires c = (c.requires, omega (arith, c.slot_count-n.ensures))
-
-pub overflow_add-count : goal.overflow_add-count
-overflow_add-count c =
-    let k = counting_on c.loop-i.invariant (omega (arith, c.slot_count-n.ensures)) _ _ (c.is_taken.ensures ∙ ap taken c.slot_at.ensures) c.from-count.ensures in
-    omega (arith, k.few)
 
 pub loop-i-preserved : goal.loop-i-preserved
 loop-i-preserved c =

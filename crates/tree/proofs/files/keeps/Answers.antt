@@ -8,14 +8,8 @@ use mathlib.Core.Path.{sym, ap, ◌∙◌}
 use native.Mathlib.Omega.{arith}
 use Rattle.tree.proofs.files.keeps.Goals as goal
 
-pub is-requires : goal.is-requires
-is-requires c = omega (arith, c.requires.fits)
-
 pub returns-then-not-is : goal.returns-then-not-is
 returns-then-not-is c = file-other _ _ (eqb-false _ _ (sym c.is.ensures ∙ c.if-not-is.true))
-
-pub size_at-room-requires : goal.size_at-room-requires
-size_at-room-requires c = omega (arith, c.requires.fits)
 
 pub overflow_sub-room : goal.overflow_sub-room
 overflow_sub-room c = omega (arith, file_data_size c.requires (eqb-true _ _ (sym c.is.ensures ∙ c.if-not-is.false)), c.size_at-room.ensures)

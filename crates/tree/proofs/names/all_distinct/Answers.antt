@@ -4,4 +4,4 @@ use native.Mathlib.Omega.{arith}
 use Rattle.tree.proofs.names.all_distinct.Goals as goal
 
 pub many_distinct-requires-in_default : goal.many_distinct-requires-in_default
-many_distinct-requires-in_default c = (c.requires, c.slot_count-n.ensures, omega (arith, few-slots c.requires.directory), omega arith)
+many_distinct-requires-in_default c = (few-slots c.args.d.sound.directory, omega arith)

@@ -1,29 +1,26 @@
 use Rattle.tree.proofs.Printing.{comparing_start, comparing_on}
-use Rattle.tree.proofs.Rows.{apart-start, apart-end, apart_out, apart_next, left-start, directory-is}
+use Rattle.tree.proofs.Rows.{apart-end, apart_out, apart_next, left-start, directory-is}
 use Rattle.tree.specs.Rules.{distinct}
-use mathlib.Core.Path.{◌∙◌, ap, sym}
+use mathlib.Core.Path.{refl, ◌∙◌, ap, sym}
 use native.Mathlib.Omega.{arith}
 use Rattle.tree.proofs.names.distinct_by.Goals as goal
 
-pub loop-i-init : goal.loop-i-init
-loop-i-init g c = apart-start _ _
-
 pub loop-j-init : goal.loop-j-init
-loop-j-init g c = comparing_start c.requires.leads c.requires.printed c.requires.all (omega arith) c.loop-i.invariant c.next-j.ensures
+loop-j-init g c = comparing_start c.requires.leads c.args.prints.printed refl (omega (arith, c.slot_count-n.ensures)) c.loop-i.invariant c.next-j.ensures
 
 pub returns-then-equal_by : goal.returns-then-equal_by
 returns-then-equal_by g c =
-    apart_out c.loop-j.invariant.apart (omega (arith, c.requires.all)) (omega (arith, c.requires.all)) (sym c.equal_by.ensures ∙ c.if-equal_by.true)
-    ∙ ap (distinct _) (sym (left-start _ (directory-is c.requires.directory.directory)))
+    apart_out c.loop-j.invariant.apart (omega (arith, c.slot_count-n.ensures)) (omega (arith, c.slot_count-n.ensures)) (sym c.equal_by.ensures ∙ c.if-equal_by.true)
+    ∙ ap (distinct _) (sym (left-start _ (directory-is c.args.prints.directory.sound.directory)))
 
 pub loop-j-preserved : goal.loop-j-preserved
 loop-j-preserved g c =
-    comparing_on c.requires.leads c.requires.printed c.requires.all (omega arith) c.loop-j.invariant (omega arith)
+    comparing_on c.requires.leads c.args.prints.printed refl (omega (arith, c.slot_count-n.ensures)) c.loop-j.invariant (omega (arith, c.slot_count-n.ensures))
     (sym c.equal_by.ensures ∙ c.if-equal_by.false) c.next-j-in-loop-j.ensures
 
 pub loop-i-preserved : goal.loop-i-preserved
-loop-i-preserved g c = apart_next c.loop-j.invariant.apart (omega (arith, c.requires.all)) (omega (arith, c.requires.all))
+loop-i-preserved g c = apart_next c.loop-j.invariant.apart (omega (arith, c.slot_count-n.ensures)) (omega (arith, c.slot_count-n.ensures))
 
 pub returns : goal.returns
 returns g c =
-    apart-end c.loop-i.invariant (omega (arith, c.requires.all)) ∙ ap (distinct _) (sym (left-start _ (directory-is c.requires.directory.directory)))
+    apart-end c.loop-i.invariant (omega (arith, c.slot_count-n.ensures)) ∙ ap (distinct _) (sym (left-start _ (directory-is c.args.prints.directory.sound.directory)))

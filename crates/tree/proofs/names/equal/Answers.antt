@@ -6,12 +6,12 @@ use Rattle.tree.proofs.names.equal.Goals as goal
 
 pub equal_data-requires : goal.equal_data-requires
 equal_data-requires c =
-    equal_stand c.requires.0 c.requires.1 c.requires.2 c.slot_at-s.ensures c.slot_at-o.ensures
+    equal_stand c.args.d.sound c.requires.0 c.requires.1 c.slot_at-s.ensures c.slot_at-o.ensures
     (slot-names (slot_of c.slot_at-s.result) c.is_taken.ensures c.if-not-is_taken.false)
     (slot-names (slot_of c.slot_at-o.result) c.is_taken-2.ensures c.if-is_taken.true)
 
 pub returns-then-is_taken : goal.returns-then-is_taken
 returns-then-is_taken c =
-    equal_both c.requires.0 c.requires.1 c.requires.2 c.slot_at-s.ensures c.slot_at-o.ensures
+    equal_both c.args.d.sound c.requires.0 c.requires.1 c.slot_at-s.ensures c.slot_at-o.ensures
     (slot-names (slot_of c.slot_at-s.result) c.is_taken.ensures c.if-not-is_taken.false)
     (slot-names (slot_of c.slot_at-o.result) c.is_taken-2.ensures c.if-is_taken.true) _ c.equal_data.ensures

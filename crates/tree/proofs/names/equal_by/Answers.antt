@@ -5,4 +5,4 @@ use mathlib.Core.Path.{sym, ◌∙◌}
 use Rattle.tree.proofs.names.equal_by.Goals as goal
 
 pub returns-else-prints-j : goal.returns-else-prints-j
-returns-else-prints-j c = ne_eqb _ _ c.if-prints-j.false ∙ sym (unlike_names c.requires.1 _ _ c.requires.2 c.requires.3 c.if-prints-j.false)
+returns-else-prints-j c = ne_eqb _ _ c.if-prints-j.false ∙ sym (unlike_names c.args.prints.printed _ _ c.requires.0 c.requires.1 c.if-prints-j.false)

@@ -17,4 +17,4 @@ pub returns-else-not-is_directory : goal.returns-else-not-is_directory
 returns-else-not-is_directory c =
     let q = sym c.is_directory.ensures ∙ c.if-not-is_directory.false in
     let k = kind-directory _ _ c.args.marks.marked.tiled c.kind_at.ensures q in
-    right_parent _ _ _ (kind-is _ _ c.kind_at.ensures q) _ c.parent_of.ensures k.1
+    c.eq.ensures ∙ right_parent _ _ _ (kind-is _ _ c.kind_at.ensures q) _ c.parent_of.ensures k.1

@@ -9,13 +9,13 @@ use Rattle.tree.proofs.naming.note_slot.Goals as goal
 
 pub returns-then-not-is_taken : goal.returns-then-not-is_taken
 returns-then-not-is_taken c =
-    noted-empty c.requires.0 c.requires.1
-    c.requires.2 c.slot_at-s.ensures (slot-empty (slot_of c.slot_at-s.result) c.is_taken.ensures c.if-not-is_taken.true)
+    noted-empty c.requires.0 c.args.d.sound
+    c.requires.1 c.slot_at-s.ensures (slot-empty (slot_of c.slot_at-s.result) c.is_taken.ensures c.if-not-is_taken.true)
 
 pub count-requires : goal.count-requires
 count-requires c =
     (refs-inside c.requires.0
-    c.requires.1 c.requires.2
+    c.args.d.sound c.requires.1
     c.slot_at-s.ensures (slot-names (slot_of c.slot_at-s.result) c.is_taken.ensures c.if-not-is_taken.false)).0
 
 pub count-requires-2 : goal.count-requires-2
@@ -25,16 +25,16 @@ count-requires-2 c =
       simp length-set at (ap length c.count.ensures),
       (refs-inside
           c.requires.0
+          c.args.d.sound
           c.requires.1
-          c.requires.2
           c.slot_at-s.ensures (slot-names (slot_of c.slot_at-s.result) c.is_taken.ensures c.if-not-is_taken.false)).1,
     )
 
 pub returns : goal.returns
 returns c =
     noted-taken c.requires.0
+    c.args.d.sound
     c.requires.1
-    c.requires.2
     c.slot_at-s.ensures
     (slot-names (slot_of c.slot_at-s.result) c.is_taken.ensures c.if-not-is_taken.false) c.may_name-right.ensures
     c.count.ensures c.count-2.ensures

@@ -1,29 +1,18 @@
 use Prim.Native.Nat.{◌<◌}
-use Rattle.alloc.specs.Block.{block_of}
-use Rattle.tree.proofs.Noting.{notes_start, notes_on, notes_all, slot_here}
+use Rattle.tree.specs.Directory.{block_in}
+use Rattle.tree.proofs.Noting.{notes_on, notes_all, slot_here}
 use Rattle.tree.proofs.Rows.{directory-is}
 use Rattle.tree.specs.Fields.{total}
 use mathlib.Core.Path.{refl}
 use native.Mathlib.Omega.{arith}
 use Rattle.tree.proofs.naming.note_slots.Goals as goal
 
-pub loop-i-init : goal.loop-i-init
-loop-i-init c = notes_start _ _ c.requires.0
-
-pub note_slot-requires : goal.note_slot-requires
-note_slot-requires c = (c.loop-i.invariant.annotated.marked, c.requires.1, omega (arith, c.slot_count-i-end.ensures))
-
 pub loop-i-preserved : goal.loop-i-preserved
 loop-i-preserved c =
-    let h : c.loop-i.i < total
-    (block_of c.args.image.now
-    c.args.d.0) = omega (arith, c.slot_count-i-end.ensures) in
+    let h : c.loop-i.i < total (block_in c.args.d) = omega (arith, c.slot_count-i-end.ensures) in
     notes_on c.loop-i.invariant h
-    (slot_here c.loop-i.invariant.annotated.marked c.requires.1 h refl) _
+    (slot_here c.loop-i.invariant.annotated.marked c.args.d.sound h refl) _
     c.note_slot.ensures
 
-pub shape_of-marks : goal.shape_of-marks
-shape_of-marks c = c.loop-i.invariant.long
-
 pub returns : goal.returns
-returns c = notes_all c.loop-i.invariant (directory-is c.requires.1.directory) (omega (arith, c.slot_count-i-end.ensures))
+returns c = notes_all c.loop-i.invariant (directory-is c.args.d.sound.directory) (omega (arith, c.slot_count-i-end.ensures))

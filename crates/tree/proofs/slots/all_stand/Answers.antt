@@ -1,14 +1,8 @@
 use Rattle.tree.proofs.Rows.{stood_on, stood_out, stood_end, left-start, directory-is}
 use Rattle.tree.specs.Rules.{slot_stands, slots_stand}
-use mathlib.Core.Path.{refl, sym, ap, ◌∙◌}
+use mathlib.Core.Path.{sym, ap, ◌∙◌}
 use native.Mathlib.Omega.{arith}
 use Rattle.tree.proofs.slots.all_stand.Goals as goal
-
-pub loop-i-init : goal.loop-i-init
-loop-i-init c = record { so_far = refl }
-
-pub slot_at-requires : goal.slot_at-requires
-slot_at-requires c = (c.requires, omega (arith, c.slot_count-i-end.ensures))
 
 pub returns-then-not-stands : goal.returns-then-not-stands
 returns-then-not-stands c =

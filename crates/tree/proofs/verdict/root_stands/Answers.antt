@@ -10,7 +10,7 @@ pub returns-then-is_directory : goal.returns-then-is_directory
 returns-then-is_directory c =
     let q = sym c.is_directory.ensures ∙ c.if-is_directory.true in
     let k = kind-directory _ _ c.args.marks.marked.tiled c.kind_at.ensures q in
-    root-directory _ _ c.kind_at.ensures q _ c.parent_of.ensures k.1
+    c.eq.ensures ∙ root-directory _ _ c.kind_at.ensures q _ c.parent_of.ensures k.1
 
 pub returns-else-is_directory : goal.returns-else-is_directory
 returns-else-is_directory c = c.if-is_directory.false ∙ root-other _ _ c.kind_at.ensures (sym c.is_directory.ensures ∙ c.if-is_directory.false)
