@@ -4,14 +4,10 @@ use Rattle.tree.specs.Rules.{distinct}
 use mathlib.Core.Path.{refl, ◌∙◌, ap, sym}
 use native.Mathlib.Omega.{arith}
 use Rattle.tree.proofs.names.distinct_by.Goals as goal
+use Rattle.tree.proofs.names.distinct_by.Goals.{then-loop-i-test+then-loop-j-test+then-equal_by, else-loop-i-test}
 
 pub loop-j-init : goal.loop-j-init
 loop-j-init g c = comparing_start c.requires.leads c.args.prints.printed refl (omega (arith, c.slot_count-n.ensures)) c.loop-i.invariant c.next-j.ensures
-
-pub returns-then-equal_by : goal.returns-then-equal_by
-returns-then-equal_by g c =
-    apart_out c.loop-j.invariant.apart (omega (arith, c.slot_count-n.ensures)) (omega (arith, c.slot_count-n.ensures)) (sym c.equal_by.ensures ∙ c.if-equal_by.true)
-    ∙ ap (distinct _) (sym (left-start _ (directory-is c.args.prints.directory.sound.directory)))
 
 pub loop-j-preserved : goal.loop-j-preserved
 loop-j-preserved g c =
@@ -23,4 +19,12 @@ loop-i-preserved g c = apart_next c.loop-j.invariant.apart (omega (arith, c.slot
 
 pub returns : goal.returns
 returns g c =
-    apart-end c.loop-i.invariant (omega (arith, c.slot_count-n.ensures)) ∙ ap (distinct _) (sym (left-start _ (directory-is c.args.prints.directory.sound.directory)))
+    let whole = ap (distinct _) (sym (left-start _ (directory-is c.args.prints.directory.sound.directory))) in
+    elim c.loop-i-test.branch [
+      | then-loop-i-test+then-loop-j-test+then-equal_by w ↦
+          w.result-is
+          ∙ apart_out w.loop-j.invariant.apart (omega (arith, c.slot_count-n.ensures)) (omega (arith, c.slot_count-n.ensures))
+          (sym w.equal_by.ensures ∙ w.if-equal_by.true)
+          ∙ whole
+      | else-loop-i-test w ↦ w.result-is ∙ apart-end c.loop-i.invariant (omega (arith, c.slot_count-n.ensures)) ∙ whole
+    ]
