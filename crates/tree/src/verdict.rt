@@ -79,7 +79,7 @@ fn unless(holds: bool) -> Option<Ref>
 fn root_stands(marks: Marks, root: Ref) -> bool
     ensures { result ≡ root_stands (objects (volume_of marks.entry.image.now)) root.0 }
 {
-    fields::is_directory(marks.kind_at(root)) && fields::parent_of(marks.image, root) == root
+    marks.is(root, Kind::Directory) && fields::parent_of(marks.image, root) == root
 }
 
 // The first block that fails a test. Free blocks fail none.
