@@ -12,8 +12,8 @@ returns-in_default c = remove-missing _ _ _ c.in_default.ensures
 pub slot_at-requires : goal.slot_at-requires
 slot_at-requires c = ((directory-stands (λ i. (c.slice_known-1.given i).fits) c.requires).0, slot_here (λ i. (c.slice_known-1.given i).fits) c.requires _ (found-taken _ c.requires c.in-Some.ensures).slot)
 
-pub holds_some-requires : goal.holds_some-requires
-holds_some-requires c =
+pub invariant_of-holds_some-clause-there : goal.invariant_of-holds_some-clause-there
+invariant_of-holds_some-clause-there c =
     let k = found-taken _ c.requires c.in-Some.ensures in
     subst (λ (y : Slot). ObjectAt c.args.image.now y.1) (sym (slot_read (λ i. (c.slice_known-1.given i).fits) c.requires c.in-Some.i c.slot_at.ensures)) (slot-object (λ i. (c.slice_known-1.given i).fits) c.requires _ k.slot k.is-taken)
 
