@@ -21,8 +21,5 @@ returns-in_err-at c =
     rw (err_is _ (Refusal.For c.in_err-at.field-0.0) c.from_residual.ensures.1)
     (walking_out c.loop-i.invariant (omega (arith, c.count-i-end.ensures)) c.component.ensures _ c.in_err-at.ensures)
 
-pub invariant_of-take_step-clause-there : goal.invariant_of-take_step-clause-there
-invariant_of-take_step-clause-there c = c.loop-i.invariant.object
-
 pub returns : goal.returns
 returns c = walking_end c.loop-i.invariant (omega (arith, c.count-i-end.ensures))
