@@ -1,10 +1,10 @@
 -- clear: the slot, the name, the object.
-use Rattle.calls.proofs.Stands.{directory-stands, slot_here, slot_read}
+use Rattle.calls.proofs.Stands.{slot_here, slot_read}
 use Rattle.changes.proofs.Removing.{clear_done, clear_name, clear_object, clear_slot}
 use Rattle.changes.proofs.remove.clear.Goals as goal
 
 pub slot_at-slot-requires : goal.slot_at-slot-requires
-slot_at-slot-requires c = ((directory-stands (λ i. (c.slice_known-1.given i).fits) c.requires.directory).0, slot_here (λ i. (c.slice_known-1.given i).fits) c.requires.directory _ c.requires.slot)
+slot_at-slot-requires c = slot_here (λ i. (c.slice_known-1.given i).fits) c.requires.directory _ c.requires.slot
 
 pub set-requires : goal.set-requires
 set-requires c = clear_slot (λ i. (c.slice_known-1.given i).fits) c.requires
