@@ -16,7 +16,7 @@ use Rattle.tree.specs.Fields.{Slot, is_dir, slot_at, slots, slots_from, taken, t
 use Rattle.tree.proofs.Rows.{slot-inside}
 use Rattle.calls.specs.Answers.{DirectoryIn, ObjectAt}
 use Rattle.calls.specs.Reading.{block_in}
-use Rattle.calls.proofs.Stands.{directory-stands, slot_here, slot-object, slot_read}
+use Rattle.calls.proofs.Stands.{slot_here, slot-object, slot_read}
 use Rattle.listing.specs.declared.lines.Node.{Node}
 use Rattle.listing.specs.Held.{held_lines, slot_count}
 use Rattle.listing.specs.Nodes.{NodeIn, child_of, levels, lines_at, lines_in}
@@ -118,7 +118,7 @@ gone {s} b {d} o {j} e l =
     let c = counted-directory (levels d.depth) (block_in s d.at.0) h in
     let r : DirectoryIn s d.at.0 = record { formed = o.object.formed; kind = c.0 } in
     let k : j < total (block_in s d.at.0) = omega (arith, c.2) in
-    let a : DirectoryAt s d.at.0 × (j < total (block_of s d.at.0)) = ((directory-stands b r).0, slot_here b r j k) in
+    let a : DirectoryAt s d.at.0 × (j < total (block_of s d.at.0)) = slot_here b r j k in
     record {
       low = omega (arith, c.1);
       counted = h;

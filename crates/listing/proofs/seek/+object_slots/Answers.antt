@@ -1,19 +1,13 @@
 -- object and slots: slots have twice their object's levels as measure, an object one more; the loop passes a slot in each turn.
 use Rattle.listing.proofs.Held.{gone, gone_child}
-use Rattle.listing.proofs.Seeking.{goes_begun, goes_own, passing_empty, passing_end, passing_found, passing_on, passing_start}
+use Rattle.listing.proofs.Seeking.{goes_own, passing_empty, passing_end, passing_found, passing_on}
 use mathlib.Core.Path.{◌∙◌, refl, sym}
 use native.Mathlib.Omega.{arith}
 use Rattle.listing.proofs.seek.+object_slots.Goals as goal
 use Rattle.listing.proofs.seek.+object_slots.Goals.{slots-then-is_taken+else-is_some, slots-else-is_taken}
 
-pub object-returns-then-cursor-node-ne0 : goal.object-returns-then-cursor-node-ne0
-object-returns-then-cursor-node-ne0 t c = goes_begun _ _ _ _ _ _ c.if-cursor-node-ne0.true c.slots.ensures
-
 pub object-returns : goal.object-returns
 object-returns t c = goes_own _ _ _ _ _ _ c.if-cursor-node-ne0.false c.place.ensures c.line_of.ensures
-
-pub slots-loop-i-init : goal.slots-loop-i-init
-slots-loop-i-init t c = passing_start _ _ _ c.from-first.ensures c.requires.1
 
 pub slots-slot_at-slot-requires : goal.slots-slot_at-slot-requires
 slots-slot_at-slot-requires t c = (gone (λ i. (c.type_inv.image i).fits) c.requires.0 c.open_slots-i-end.ensures c.loop-i-test.true).read

@@ -1,7 +1,7 @@
 -- object and slots: slots have twice their object's levels as measure, an object one more; the loop stores the lines of a slot in each turn.
 use Rattle.calls.proofs.Stands.{no_directory, object-at as object-stands}
 use Rattle.listing.proofs.Held.{child-lines, child-room, gone, gone_child, gone_empty, held_none}
-use Rattle.listing.proofs.Storing.{object-behind, storing_as, storing_end, storing_on, storing_start, stores_file, stores_object}
+use Rattle.listing.proofs.Storing.{object-behind, storing_as, storing_end, storing_on, stores_file, stores_object}
 use mathlib.Core.Path.{refl}
 use native.Mathlib.Omega.{arith}
 use Rattle.listing.proofs.walk.+object_slots.Goals as goal
@@ -11,9 +11,6 @@ object-slots-requires t c = (omega (arith, c.decreases), (c.requires.0, object-b
 
 pub object-returns : goal.object-returns
 object-returns t c = stores_object _ _ c.own.ensures c.slots.ensures
-
-pub slots-loop-j-init : goal.slots-loop-j-init
-slots-loop-j-init t c = storing_start _ _ _
 
 pub slots-slot_at-slot-requires : goal.slots-slot_at-slot-requires
 slots-slot_at-slot-requires t c = (gone (λ i. (c.type_inv.image i).fits) c.requires.0 c.open_slots-j-end.ensures c.loop-j-test.true).read
@@ -38,9 +35,6 @@ pub slots-own-requires : goal.slots-own-requires
 slots-own-requires t c =
     let g = gone (λ i. (c.type_inv.image i).fits) c.requires.0 c.open_slots-j-end.ensures c.loop-j-test.true in
     (gone_child g c.slot_at-slot.ensures c.is_taken.ensures c.if-not-is_taken.false c.child.ensures).there.object
-
-pub slots-overflow_add-at : goal.slots-overflow_add-at
-slots-overflow_add-at t c = omega (arith, c.loop-j.invariant.left, c.requires.1)
 
 pub slots-loop-j-preserved-then-not-is : goal.slots-loop-j-preserved-then-not-is
 slots-loop-j-preserved-then-not-is t c =
