@@ -1,6 +1,6 @@
 -- The lowest slot that passes a test: the loop that looks for it, and what it finds.
 use Prim.Native.Nat.{◌+◌, ◌<◌, ◌≤◌, suc, zero, ℕ}
-use mathlib.Core.Bool.{Bool, false, not, true}
+use mathlib.Core.Bool.{Bool, false, true}
 use mathlib.Core.List.{List}
 use mathlib.Core.Option.{Option, none, some}
 use mathlib.Core.Path.{◌∙◌, ◌≡◌, ap, refl, subst, sym}
@@ -10,9 +10,8 @@ use native.Mathlib.Omega.{arith}
 use Rattle.std.specs.Prelude as std
 use Rattle.std.specs.Prelude.{MatchOption, None, Some}
 use Rattle.calls.specs.Answers.{index_of}
-use lib.Dec.{eqb}
 use Rattle.alloc.specs.Block.{Block}
-use Rattle.tree.specs.Fields.{Slot, is_dir, slot_at, slots, slots_from, taken, total}
+use Rattle.tree.specs.Fields.{Slot, is_dir, slot_at, slots, slots_from, total}
 use Rattle.tree.proofs.Indexed.{slots_dir, slots-other}
 use Rattle.tree.proofs.Rows.{left, left_end, left-start, left_step}
 use Rattle.calls.specs.Walk.{first_slot, onward}
@@ -105,12 +104,3 @@ found-slot p b i e = go (is_dir b) refl
         let r = found_from p b 0 (total b) i (ap (first_slot p) (sym (slots_dir b d)) ∙ e) in
         (r.0, subst (λ (x : ℕ). p (slot_at b x) ≡ true) (zero-add i) r.1)
     go false d = let z : none ≡ some i = ap (first_slot p) (sym (slots-other b d)) ∙ e in let y : ◌≡◌ {A = ℕ} 0 1 = cc in absurd (omega arith)
-
--- ---- an empty slot, as it is read
-
-pub empty-slot : {x y : Slot} → x ≡ y → eqb x.1 0 ≡ not (taken y)
-empty-slot {x} {y} e = ap (λ (s : Slot). eqb s.1 0) e ∙ twice (eqb y.1 0)
-  where
-    twice : (t : Bool) → t ≡ not (not t)
-    twice true = refl
-    twice false = refl

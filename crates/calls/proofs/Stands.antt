@@ -86,8 +86,9 @@ module _ {s : List ℕ} (h : AllBytes s) where
     pub slot_read : {x : Slot} → x ≡ slot_at (block_of s r) i → x ≡ slot_at (block_in s r) i
     slot_read e = e ∙ ap (λ (b : Block). slot_at b i) (directory-stands d).1
 
-    pub slot_here : i < total (block_in s r) → i < total (block_of s r)
-    slot_here l = subst (λ (b : Block). i < total b) (sym (directory-stands d).1) l
+    -- it lies in the directory that stands there
+    pub slot_here : i < total (block_in s r) → DirectoryAt s r × (i < total (block_of s r))
+    slot_here l = ((directory-stands d).0, subst (λ (b : Block). i < total b) (sym (directory-stands d).1) l)
 
   -- a taken slot: its name block stands, and its object is one
   module _ {r : ℕ} (d : DirectoryIn s r) (i : ℕ) (l : i < total (block_in s r)) (t : taken (slot_at (block_in s r) i) ≡ true) where

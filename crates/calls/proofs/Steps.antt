@@ -37,22 +37,23 @@ module _ {s : List ℕ} (h : AllBytes s) {r : ℕ} (d : DirectoryIn s r) {i : �
   slot_is : x ≡ slot_at (block_in s r) i
   slot_is = slot_read h d i e
 
-  pub named-empty : (w : List ℕ) → x.1 ≡ 0 → false ≡ named s r i w
-  named-empty w q = sym (rw (eq-eqb (slot_at (block_in s r) i).1 0 (ap (λ (y : Slot). y.1) (sym slot_is) ∙ q)))
+  module _ {t : Bool} (q : t ≡ taken x) where
+    taken_as : taken (slot_at (block_in s r) i) ≡ t
+    taken_as = ap taken (sym slot_is) ∙ sym q
 
-  module _ (n : x.1 ≡ 0 → ⊥) where
-    taken_so : taken (slot_at (block_in s r) i) ≡ true
-    taken_so = rw (ne_eqb (slot_at (block_in s r) i).1 0 (λ q. n (ap (λ (y : Slot). y.1) slot_is ∙ q)))
+    pub named-empty : (w : List ℕ) → t ≡ false → false ≡ named s r i w
+    named-empty w n = sym (ap (λ (y : Bool). y && same (block_in s (slot_at (block_in s r) i).0).body w) (taken_as ∙ n))
 
-    pub name-standing : Standing s x.0
-    name-standing = subst (λ (y : Slot). Standing s y.0) (sym slot_is) (slot-name-stands h d i l taken_so).standing
+    module _ (n : t ≡ true) where
+      pub name-standing : Standing s x.0
+      name-standing = subst (λ (y : Slot). Standing s y.0) (sym slot_is) (slot-name-stands h d i l (taken_as ∙ n)).standing
 
-    pub named-taken : (w : List ℕ) (t : Bool) → t ≡ same (block_of s x.0).body w → t ≡ named s r i w
-    named-taken w t f =
-        f
-        ∙ ap (λ (y : Slot). same (block_of s y.0).body w) slot_is
-        ∙ ap (λ (b : Block). same b.body w) (slot-name-stands h d i l taken_so).block
-        ∙ sym (ap (λ (q : Bool). q && same (block_in s (slot_at (block_in s r) i).0).body w) taken_so)
+      pub named-taken : (w : List ℕ) (u : Bool) → u ≡ same (block_of s x.0).body w → u ≡ named s r i w
+      named-taken w u f =
+          f
+          ∙ ap (λ (y : Slot). same (block_of s y.0).body w) slot_is
+          ∙ ap (λ (b : Block). same b.body w) (slot-name-stands h d i l (taken_as ∙ n)).block
+          ∙ sym (ap (λ (y : Bool). y && same (block_in s (slot_at (block_in s r) i).0).body w) (taken_as ∙ n))
 
 -- what is no directory blocks the way
 pub step-blocked : (os : Objects) (r : ℕ) (w : List ℕ) → is_dir (block_at os r) ≡ false → blocked ≡ step os r w

@@ -3,6 +3,7 @@
 #![tactic(auto)]
 
 pub mod check;
+pub mod objects;
 pub mod reading;
 pub mod refusal;
 pub mod slots;

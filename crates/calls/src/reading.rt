@@ -3,8 +3,9 @@
 ghost use Rattle.std.specs.Prelude.{◌≡◌, ◌<◌};
 ghost use Rattle.calls.specs.Reading as spec;
 ghost use Rattle.calls.specs.Reading.{kind_of, block_in};
-ghost use Rattle.calls.specs.Answers.{kind_is, found_of, outcome_of, count_of, point_bytes_of, ObjectAt, FileIn, Reads, Copies, Points};
+ghost use Rattle.calls.specs.Answers.{kind_is, found_of, outcome_of, count_of, point_bytes_of, Reads, Copies, Points};
 
+use crate::objects::{File, Object};
 use crate::refusal::{Reason, Refusal};
 use crate::walk;
 use alloc::{access, block};
@@ -24,18 +25,18 @@ pub struct Found {
     pub kind: Kind,
 }
 
-// The kind of the object at `r`.
-pub fn kind_at(image: &[u8], r: Ref) -> Kind
-    requires { ObjectAt image.now r.0 }
-    ensures { kind_is result ≡ kind_of (block_in image.now r.0) }
+// The kind of the object.
+pub fn kind_at(object: Object) -> Kind
+    ensures { kind_is result ≡ kind_of (block_in object.entry.image.now object.entry.at.0) }
 {
-    if block::is(image, r, block::Kind::Directory) {
-        let taken = fields::taken_count(image, r);
-        let total = fields::slot_count(image, r) as u64;
+    let Object { image, at } = object;
+    if block::is(image, at, block::Kind::Directory) {
+        let taken = fields::taken_count(image, at);
+        let total = fields::slot_count(image, at) as u64;
         return Kind::Directory { taken, total };
     }
-    let size = access::read_u64(image, r, Pos(0));
-    let room = (block::size_at(image, r) - 16) as u64;
+    let size = access::read_u64(image, at, Pos(0));
+    let room = (block::size_at(image, at) - 16) as u64;
     Kind::File { size, room }
 }
 
@@ -46,21 +47,21 @@ pub fn find(image: &[u8], path: &[u8]) -> Result<Found, Refusal>
     let at = walk::begin(image, path, true)?;
     Ok(Found {
         at,
-        kind: kind_at(image, at),
+        kind: kind_at(Object { image, at }),
     })
 }
 
-// The bytes of the file at `r` from the position on, to the front of the buffer: how many.
-fn copy_from(image: &[u8], r: Ref, position: u64, buffer: &mut [u8]) -> u64
-    requires { FileIn image.now r.0 }
-    ensures { Copies image.now r.0 position buffer.old result buffer.new }
+// The bytes of the file from the position on, to the front of the buffer: how many.
+fn copy_from(file: File, position: u64, buffer: &mut [u8]) -> u64
+    ensures { Copies file.entry.image.now file.entry.at.0 position buffer.old result buffer.new }
 {
-    let size = access::read_u64(image, r, Pos(0));
+    let File { image, at } = file;
+    let size = access::read_u64(image, at, Pos(0));
     if size <= position {
         return 0;
     }
     let n = (buffer.len() as u64).min(size - position) as usize;
-    access::copy_out(image, r, Pos(16 + position as usize), buffer, n);
+    access::copy_out(image, at, Pos(16 + position as usize), buffer, n);
     n as u64
 }
 
@@ -68,21 +69,22 @@ fn copy_from(image: &[u8], r: Ref, position: u64, buffer: &mut [u8]) -> u64
 pub fn read(image: &[u8], path: &[u8], position: u64, buffer: &mut [u8]) -> Result<u64, Refusal>
     ensures { Reads (spec.read image.now path.now position buffer.old) (outcome_of result) (count_of result) buffer.new }
 {
-    let r = walk::file(image, path, true)?;
-    Ok(copy_from(image, r, position, buffer))
+    let at = walk::file(image, path, true)?;
+    Ok(copy_from(File { image, at }, position, buffer))
 }
 
-// Point `n` of the file at `r`.
-fn point_at(image: &[u8], r: Ref, n: u64) -> Result<[u8; 16], Refusal>
-    requires { FileIn image.now r.0 × (0 < n) × (n < 4097) }
-    ensures { Points (spec.point_of n (block_in image.now r.0)) (outcome_of result) (point_bytes_of result) }
+// Point `n` of the file.
+fn point_at(file: File, n: u64) -> Result<[u8; 16], Refusal>
+    requires { (0 < n) × (n < 4097) }
+    ensures { Points (spec.point_of n (block_in file.entry.image.now file.entry.at.0)) (outcome_of result) (point_bytes_of result) }
 {
-    let size = access::read_u64(image, r, Pos(0));
+    let File { image, at } = file;
+    let size = access::read_u64(image, at, Pos(0));
     if size < 16 * n {
         return Err(Refusal::For(Reason::PastEnd));
     }
     let mut bytes = [0u8; 16];
-    access::copy_out(image, r, Pos(16 * (n as usize)), &mut bytes, 16);
+    access::copy_out(image, at, Pos(16 * (n as usize)), &mut bytes, 16);
     Ok(bytes)
 }
 
@@ -91,6 +93,6 @@ pub fn read_point(image: &[u8], path: &[u8], number: u64) -> Result<[u8; 16], Re
     ensures { Points (spec.read_point image.now path.now number) (outcome_of result) (point_bytes_of result) }
 {
     let allowed = (1 <= number) & (number <= 4096);
-    let r = walk::file(image, path, allowed)?;
-    point_at(image, r, number)
+    let at = walk::file(image, path, allowed)?;
+    point_at(File { image, at }, number)
 }

@@ -5,48 +5,46 @@ ghost use Rattle.tree.specs.Fields.{total, slot_at, taken};
 ghost use Rattle.calls.specs.Walk.{slot_named, empty_slot};
 ghost use Rattle.calls.specs.Reading.{block_in};
 ghost use Rattle.alloc.specs.Volume.{volume_of, objects};
-ghost use Rattle.calls.specs.Answers.{DirectoryIn, named, index_of};
+ghost use Rattle.calls.specs.Answers.{named, index_of};
 
+use crate::objects::Directory;
 use alloc::access;
-use storage::Ref;
 use tree::fields;
 
-// Whether slot `i` of the directory at `d` is taken, with this name.
-fn has_name(image: &[u8], d: Ref, i: usize, name: &[u8]) -> bool
-    requires { DirectoryIn image.now d.0 × (i < total (block_in image.now d.0)) }
-    ensures { result ≡ named image.now d.0 i name.now }
+// Whether slot `i` is taken, with this name.
+fn has_name(directory: Directory, i: usize, name: &[u8]) -> bool
+    requires { i < total (block_in directory.image.now directory.at.0) }
+    ensures { result ≡ named directory.entry.image.now directory.entry.at.0 i name.now }
 {
-    let s = fields::slot_at(image, d, i);
-    let object = s.object;
-    if object.0 == 0 {
+    let Directory { image, at } = directory;
+    let slot = fields::slot_at(image, at, i);
+    if !slot.is_taken() {
         return false;
     }
-    let held = s.name;
-    access::equals(image, held, name)
+    access::equals(image, slot.name, name)
 }
 
-// Whether slot `i` of the directory at `d` is empty.
-fn is_empty(image: &[u8], d: Ref, i: usize) -> bool
-    requires { DirectoryIn image.now d.0 × (i < total (block_in image.now d.0)) }
-    ensures { result ≡ not (taken (slot_at (block_in image.now d.0) i)) }
+// Whether slot `i` is empty.
+fn is_empty(directory: Directory, i: usize) -> bool
+    requires { i < total (block_in directory.image.now directory.at.0) }
+    ensures { result ≡ not (taken (slot_at (block_in directory.entry.image.now directory.entry.at.0) i)) }
 {
-    fields::slot_at(image, d, i).object.0 == 0
+    let Directory { image, at } = directory;
+    !fields::slot_at(image, at, i).is_taken()
 }
 
-// The slot of the directory at `d` with this name.
-pub fn with_name(image: &[u8], d: Ref, name: &[u8]) -> Option<usize>
-    requires { DirectoryIn image.now d.0 }
-    ensures { index_of result ≡ slot_named (objects (volume_of image.now)) (block_in image.now d.0) name.now }
+// The slot with this name.
+pub fn with_name(directory: Directory, name: &[u8]) -> Option<usize>
+    ensures { index_of result ≡ slot_named (objects (volume_of directory.entry.image.now)) (block_in directory.entry.image.now directory.entry.at.0) name.now }
 {
-    let count = fields::slot_count(image, d);
-    (0..count).find(|&i| has_name(image, d, i, name))
+    let count = fields::slot_count(directory.image, directory.at);
+    (0..count).find(|&i| has_name(directory, i, name))
 }
 
-// The lowest empty slot of the directory at `d`.
-pub fn empty(image: &[u8], d: Ref) -> Option<usize>
-    requires { DirectoryIn image.now d.0 }
-    ensures { index_of result ≡ empty_slot (block_in image.now d.0) }
+// The lowest empty slot.
+pub fn empty(directory: Directory) -> Option<usize>
+    ensures { index_of result ≡ empty_slot (block_in directory.entry.image.now directory.entry.at.0) }
 {
-    let count = fields::slot_count(image, d);
-    (0..count).find(|&i| is_empty(image, d, i))
+    let count = fields::slot_count(directory.image, directory.at);
+    (0..count).find(|&i| is_empty(directory, i))
 }

@@ -6,34 +6,34 @@ ghost use Rattle.path.specs.Path.{components};
 ghost use Rattle.tree.specs.Verdict.{well_formed};
 ghost use Rattle.calls.specs.Walk as spec;
 ghost use Rattle.calls.specs.Walk.{step, walk_from, walked, as_file};
-ghost use Rattle.calls.specs.Answers.{step_of, start_of, outcome_of, ObjectAt, DirectoryIn};
+ghost use Rattle.calls.specs.Answers.{step_of, start_of, outcome_of};
 
+use crate::objects::{Directory, Object};
 use crate::refusal::{Reason, Refusal};
 use crate::slots;
 use alloc::block;
 use storage::Ref;
 use tree::fields;
 
-// The child with this name of the directory at `r`.
-fn child(image: &[u8], r: Ref, name: &[u8]) -> Result<Ref, Reason>
-    requires { DirectoryIn image.now r.0 }
-    ensures { step_of result ≡ walked (step (objects (volume_of image.now)) r.0 name.now) }
+// The child with this name.
+fn child(directory: Directory, name: &[u8]) -> Result<Ref, Reason>
+    ensures { step_of result ≡ walked (step (objects (volume_of directory.entry.image.now)) directory.entry.at.0 name.now) }
 {
-    let Some(i) = slots::with_name(image, r, name) else {
+    let Some(i) = slots::with_name(directory, name) else {
         return Err(Reason::NotFound);
     };
-    Ok(fields::slot_at(image, r, i).object)
+    Ok(fields::slot_at(directory.image, directory.at, i).object)
 }
 
-// One step, from what stands at `r` to the object with this name.
-fn take_step(image: &[u8], r: Ref, name: &[u8]) -> Result<Ref, Reason>
-    requires { ObjectAt image.now r.0 }
-    ensures { step_of result ≡ walked (step (objects (volume_of image.now)) r.0 name.now) }
+// One step, to the object with this name.
+fn take_step(here: Object, name: &[u8]) -> Result<Ref, Reason>
+    ensures { step_of result ≡ walked (step (objects (volume_of here.entry.image.now)) here.entry.at.0 name.now) }
 {
-    if !block::is(image, r, block::Kind::Directory) {
+    let Object { image, at } = here;
+    if !block::is(image, at, block::Kind::Directory) {
         return Err(Reason::NotDirectory);
     }
-    child(image, r, name)
+    child(Directory { image, at }, name)
 }
 
 // From the root along the components of the path.
@@ -41,11 +41,11 @@ fn walk_from(image: &[u8], path: &[u8]) -> Result<Ref, Refusal>
     requires { well_formed image.now ≡ true }
     ensures { start_of result ≡ walk_from image.now (components path.now) }
 {
-    let mut here = alloc::chain::root(image);
+    let mut at = alloc::chain::root(image);
     for i in 0..path::count(path) {
-        here = take_step(image, here, path::component(path, i))?;
+        at = take_step(Object { image, at }, path::component(path, i))?;
     }
-    Ok(here)
+    Ok(at)
 }
 
 // What is looked for first: the image's own refusal, then the path's, then that of numbers that are not allowed.

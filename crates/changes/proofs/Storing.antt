@@ -1,11 +1,10 @@
 -- Stores into an object, as steps of a change; and write and set length, by what they store and by how they begin.
 use Prim.Native.Nat.{◌+◌, ◌-◌, ◌<◌, ◌≤◌, max, min, ℕ}
-use mathlib.Core.Bool.{Bool, cond, false, true}
+use mathlib.Core.Bool.{Bool, cond, true}
 use mathlib.Core.List.{List, [], ◌++◌, ◌∷◌}
 use mathlib.Core.Path.{◌∙◌, ◌≡◌, ap, refl, subst, sym}
 use native.Mathlib.Omega.{arith}
 use lib.ListN.{length}
-use borrow.Author.Tests.{le-leb, lt-leb}
 use Rattle.storage.specs.Bytes.{be64, u64_at, zeroed}
 use Rattle.storage.proofs.Numbers.{AllBytes, length-be64}
 use Rattle.alloc.specs.Block.{Block, block_of, size_at}
@@ -22,7 +21,7 @@ use Rattle.alloc.proofs.Releasing.{length-zeroed}
 use Rattle.alloc.proofs.Stages.{PlacedIn, stage_holds, stage_image, stage_size, stage_start, stage_updated}
 use Rattle.tree.specs.Fields.{file_size, is_file, room}
 use Rattle.tree.proofs.Formed.{file-there, formed-file, formed-sound}
-use Rattle.calls.specs.declared.refusal.Reason.TheVariants.{IsDirectory, PastRoom}
+use Rattle.calls.specs.declared.refusal.Reason.TheVariants.{IsDirectory}
 use Rattle.calls.specs.Refusal.{Accepted, For, Refusal}
 use Rattle.calls.specs.Answers.{FileIn}
 use Rattle.calls.specs.Reading.{block_in}
@@ -116,9 +115,6 @@ answered e = record { refusal_is = sym (ap (λ (x : Outcome). x.refusal) e); ima
 chosen : (t : Bool) (a b : Outcome) → t ≡ true → {n : Refusal} {u : List ℕ} → Changes a n u → Changes (cond t a b) n u
 chosen t a b e {n} {u} c = subst (λ (q : Bool). Changes (cond q a b) n u) (sym e) c
 
-passed : (t : Bool) (a b : Outcome) → t ≡ false → {n : Refusal} {u : List ℕ} → Changes b n u → Changes (cond t a b) n u
-passed t a b e {n} {u} c = subst (λ (q : Bool). Changes (cond q a b) n u) (sym e) c
-
 -- ---- a file's bytes
 
 module _ {s : List ℕ} (h : AllBytes s) {r : ℕ} (f : FileIn s r) where
@@ -178,29 +174,6 @@ module _ {s : List ℕ} (h : AllBytes s) {r : ℕ} (f : FileIn s r) where
               ∙ ap (λ (m : ℕ). image (stored s r size m (zeroed (max size z - m)))) g
               ∙ ap (λ (m : ℕ). image (stored s r size (min size m) (zeroed (max size m - min size m)))) (size-read h f e);
         }
-
--- 12, or within the room; no bytes change nothing
-module _ (s : List ℕ) (r position : ℕ) (bytes : List ℕ) where
-  pub write_past : room (block_in s r) < position + length bytes → Changes (write_to s r position bytes) (For PastRoom) s
-  write_past l = passed _ (written s r position bytes) _ (lt-leb (position + length bytes) (room (block_in s r)) l) (answered refl)
-
-  module _ (l : position + length bytes ≤ room (block_in s r)) where
-    pub write-within : {t : List ℕ} → Changes (written s r position bytes) Accepted t → Changes (write_to s r position bytes) Accepted t
-    write-within c = chosen _ (written s r position bytes) _ (le-leb (position + length bytes) (room (block_in s r)) l) c
-
-    pub write_none : length bytes ≡ 0 → Changes (write_to s r position bytes) Accepted s
-    write_none e = write-within (go bytes e)
-      where
-        go : (y : List ℕ) → length y ≡ 0 → Changes (written s r position y) Accepted s
-        go [] q = answered refl
-        go (y ∷ ys) q = absurd (omega arith)
-
-module _ (s : List ℕ) (r size : ℕ) where
-  pub resize_past : room (block_in s r) < size → Changes (set_length_of s r size) (For PastRoom) s
-  resize_past l = passed _ (resized s r size) _ (lt-leb size (room (block_in s r)) l) (answered refl)
-
-  pub resize_within : size ≤ room (block_in s r) → {t : List ℕ} → Changes (resized s r size) Accepted t → Changes (set_length_of s r size) Accepted t
-  resize_within l c = chosen _ (resized s r size) _ (le-leb size (room (block_in s r)) l) c
 
 -- ---- the calls on a file, by how they begin
 

@@ -9,16 +9,16 @@ ghost use Rattle.changes.specs.Changing as spec;
 ghost use Rattle.changes.specs.Answers.{Changes};
 
 use alloc::{access, block};
+use calls::objects::File;
 use calls::refusal::{Reason, Refusal};
 use calls::walk;
 use storage::{Pos, Ref};
 
-// The room of the file at `r`.
-fn room_of(image: &[u8], r: Ref) -> u64
-    requires { FileIn image.now r.0 }
-    ensures { result ≡ room (block_in image.now r.0) }
+// The room of the file.
+fn room_of(file: File) -> u64
+    ensures { result ≡ room (block_in file.entry.image.now file.entry.at.0) }
 {
-    (block::size_at(image, r) - 16) as u64
+    (block::size_at(file.image, file.at) - 16) as u64
 }
 
 // Bytes within the room: zeros in the gap after the old end, then the bytes, then the size.
@@ -44,7 +44,7 @@ fn write_to(image: &mut [u8], r: Ref, position: u64, bytes: &[u8]) -> Result<(),
     requires { FileIn image.old r.0 }
     ensures { Changes (spec.write_to image.old r.0 position bytes.now) (outcome_of result) image.new }
 {
-    let room = room_of(image, r);
+    let room = room_of(File { image, at: r });
     let count = bytes.len() as u64;
     if room < position {
         return Err(Refusal::For(Reason::PastRoom));
@@ -84,7 +84,7 @@ fn set_length_of(image: &mut [u8], r: Ref, size: u64) -> Result<(), Refusal>
     requires { FileIn image.old r.0 }
     ensures { Changes (spec.set_length_of image.old r.0 size) (outcome_of result) image.new }
 {
-    if room_of(image, r) < size {
+    if room_of(File { image, at: r }) < size {
         return Err(Refusal::For(Reason::PastRoom));
     }
     resize(image, r, size);

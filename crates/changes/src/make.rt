@@ -11,6 +11,7 @@ ghost use Rattle.changes.specs.Answers.{new_of, ref_of, magic_for, size_for, par
 
 use alloc::block::Kind;
 use alloc::{access, pair};
+use calls::objects::Directory;
 use calls::refusal::{Reason, Refusal};
 use calls::{slots, walk};
 use storage::{Pos, Ref};
@@ -83,10 +84,10 @@ fn make_in(image: &mut [u8], d: Ref, name: &[u8], new: New) -> Result<Ref, Refus
     requires { DirectoryIn image.old d.0 × Named name.now × (spec.allowed (new_of new) ≡ true) }
     ensures { Makes (spec.make_in image.old (new_of new) name.now d.0) (outcome_of result) (ref_of result) image.new }
 {
-    if slots::with_name(image, d, name).is_some() {
+    if slots::with_name(Directory { image, at: d }, name).is_some() {
         return Err(Refusal::For(Reason::Exists));
     }
-    let Some(i) = slots::empty(image, d) else {
+    let Some(i) = slots::empty(Directory { image, at: d }) else {
         return Err(Refusal::For(Reason::NoSlot));
     };
     fill(image, d, i, name, new)

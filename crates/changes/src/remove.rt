@@ -4,26 +4,24 @@ ghost use Rattle.std.specs.Prelude.{◌≡◌, true, not, eqb};
 ghost use Rattle.alloc.specs.Volume as volume;
 ghost use Rattle.tree.specs.Fields.{slots, taken_count};
 ghost use Rattle.calls.specs.Reading.{block_in};
-ghost use Rattle.calls.specs.Answers.{ObjectAt, DirectoryIn, outcome_of};
+ghost use Rattle.calls.specs.Answers.{DirectoryIn, outcome_of};
 ghost use Rattle.changes.specs.Changing as spec;
 ghost use Rattle.changes.specs.Answers.{Changes, TakenSlot};
 
 use alloc::block::Kind;
 use alloc::{block, release};
+use calls::objects::{Directory, Object};
 use calls::refusal::{Reason, Refusal};
 use calls::{slots, walk};
 use storage::Ref;
 use tree::fields;
 
-// Whether the object at `r` has a taken slot.
-fn holds_some(image: &[u8], r: Ref) -> bool
-    requires { ObjectAt image.now r.0 }
-    ensures { result ≡ not (eqb (taken_count (slots (block_in image.now r.0))) 0) }
+// Whether the object has a taken slot.
+fn holds_some(object: Object) -> bool
+    ensures { result ≡ not (eqb (taken_count (slots (block_in object.entry.image.now object.entry.at.0))) 0) }
 {
-    if !block::is(image, r, Kind::Directory) {
-        return false;
-    }
-    fields::taken_count(image, r) != 0
+    let Object { image, at } = object;
+    block::is(image, at, Kind::Directory) && fields::taken_count(image, at) != 0
 }
 
 // Slot `i` of the directory at `d` emptied, and what it named freed.
@@ -31,12 +29,10 @@ fn clear(image: &mut [u8], d: Ref, i: usize)
     requires { TakenSlot image.old d.0 i }
     ensures { image.new ≡ volume.image (spec.removed image.old d.0 i) }
 {
-    let s = fields::slot_at(image, d, i);
-    let name = s.name;
-    let object = s.object;
+    let slot = fields::slot_at(image, d, i);
     crate::slot::set(image, d, i, Ref(0), Ref(0));
-    release::block(image, name);
-    release::block(image, object);
+    release::block(image, slot.name);
+    release::block(image, slot.object);
 }
 
 // From the directory at `d`: refused, or removed.
@@ -44,11 +40,11 @@ fn remove_in(image: &mut [u8], d: Ref, name: &[u8]) -> Result<(), Refusal>
     requires { DirectoryIn image.old d.0 }
     ensures { Changes (spec.remove_in image.old name.now d.0) (outcome_of result) image.new }
 {
-    let Some(i) = slots::with_name(image, d, name) else {
+    let Some(i) = slots::with_name(Directory { image, at: d }, name) else {
         return Err(Refusal::For(Reason::NotFound));
     };
-    let object = fields::slot_at(image, d, i).object;
-    if holds_some(image, object) {
+    let at = fields::slot_at(image, d, i).object;
+    if holds_some(Object { image, at }) {
         return Err(Refusal::For(Reason::NotEmpty));
     }
     clear(image, d, i);

@@ -7,7 +7,6 @@ use native.Mathlib.Nat.{sub-zero}
 use native.Mathlib.Numerals.{add-one}
 use native.Mathlib.Omega.{arith}
 use lib.ListN.{length, length-append}
-use borrow.Author.Tests.{eq-eqb, ne_eqb}
 use Rattle.storage.proofs.Numbers.{AllBytes}
 use Rattle.alloc.specs.Block.{Block, block_of}
 use Rattle.alloc.specs.Volume.{Objects, block_at, objects, volume_of}
@@ -17,7 +16,7 @@ use Rattle.tree.specs.Fields.{Slot, is_dir, slot_at, slots, slots_from, taken, t
 use Rattle.tree.proofs.Rows.{slot-inside}
 use Rattle.calls.specs.Answers.{DirectoryIn, ObjectAt}
 use Rattle.calls.specs.Reading.{block_in}
-use Rattle.calls.proofs.Stands.{directory-stands, slot_here, slot-object, slot_read}
+use Rattle.calls.proofs.Stands.{slot_here, slot-object, slot_read}
 use Rattle.listing.specs.declared.lines.Node.{Node}
 use Rattle.listing.specs.Held.{held_lines, slot_count}
 use Rattle.listing.specs.Nodes.{NodeIn, child_of, levels, lines_at, lines_in}
@@ -47,11 +46,11 @@ module _ (os : Objects) (r d levels j : ℕ) where
         row : List Slot → List Line
         row = slot_lines (λ m o. object_lines (levels - 1) os o r m (d + 1))
 
-    pub held-empty : x.1 ≡ 0 → held_lines levels os r d j ≡ held_lines levels os r d (j + 1)
-    held-empty z = held-slot ∙ rw (eq-eqb x.1 0 z)
+    pub held-empty : taken x ≡ false → held_lines levels os r d j ≡ held_lines levels os r d (j + 1)
+    held-empty z = held-slot ∙ rw z
 
-    pub held-taken : (x.1 ≡ 0 → ⊥) → held_lines levels os r d j ≡ object_lines (levels - 1) os x.1 r x.0 (d + 1) ++ held_lines levels os r d (j + 1)
-    held-taken t = held-slot ∙ rw (ne_eqb x.1 0 t)
+    pub held-taken : taken x ≡ true → held_lines levels os r d j ≡ object_lines (levels - 1) os x.1 r x.0 (d + 1) ++ held_lines levels os r d (j + 1)
+    held-taken t = held-slot ∙ rw t
 
 -- ---- an object: its own line, and what its slots hold
 
@@ -111,7 +110,7 @@ pub record Gone (s : List ℕ) (d : Node) (j : ℕ) : Type 0 where
   pub read : DirectoryAt s d.at.0 × (j < total (block_of s d.at.0))
   pub few : j < 1024
   pub read_is : {x : Slot} → x ≡ slot_at (block_of s d.at.0) j → x ≡ slot_at (block_in s d.at.0) j
-  pub object : ((slot_at (block_in s d.at.0) j).1 ≡ 0 → ⊥) → ObjectAt s (slot_at (block_in s d.at.0) j).1
+  pub object : taken (slot_at (block_in s d.at.0) j) ≡ true → ObjectAt s (slot_at (block_in s d.at.0) j).1
 
 pub gone : {s : List ℕ} → AllBytes s → {d : Node} → NodeIn s d → {j n : ℕ} → n ≡ slot_count (levels d.depth) (block_in s d.at.0) → j < n → Gone s d j
 gone {s} b {d} o {j} e l =
@@ -119,14 +118,14 @@ gone {s} b {d} o {j} e l =
     let c = counted-directory (levels d.depth) (block_in s d.at.0) h in
     let r : DirectoryIn s d.at.0 = record { formed = o.object.formed; kind = c.0 } in
     let k : j < total (block_in s d.at.0) = omega (arith, c.2) in
-    let a : DirectoryAt s d.at.0 × (j < total (block_of s d.at.0)) = ((directory-stands b r).0, slot_here b r j k) in
+    let a : DirectoryAt s d.at.0 × (j < total (block_of s d.at.0)) = slot_here b r j k in
     record {
       low = omega (arith, c.1);
       counted = h;
       read = a;
       few = (slot-inside a.0 j a.1).1;
       read_is = slot_read b r j;
-      object = λ t. slot-object b r j k (rw (ne_eqb (slot_at (block_in s d.at.0) j).1 0 t));
+      object = slot-object b r j k;
     }
 
 -- a node of the object that slot j names
@@ -135,27 +134,27 @@ pub record Child (s : List ℕ) (d : Node) (j : ℕ) (x : Node) : Type 0 where
   pub deeper : x.depth ≡ d.depth + 1
   pub below : levels x.depth + 1 ≡ levels d.depth
   pub parent_is : x.parent.0 ≡ d.at.0
-  pub taken : x.at.0 ≡ 0 → ⊥
+  pub is-taken : taken (x.name.0, x.at.0) ≡ true
   pub counted : j < slot_count (levels d.depth) (block_in s d.at.0)
   pub slot_is : (x.name.0, x.at.0) ≡ slot_at (block_in s d.at.0) j
 
-module _ {s : List ℕ} {d : Node} {j : ℕ} (g : Gone s d j) {c : declared-slot.Slot} (q : slot_of c ≡ slot_at (block_of s d.at.0) j) where
+module _ {s : List ℕ} {d : Node} {j : ℕ} (g : Gone s d j) {c : declared-slot.Slot} (q : slot_of c ≡ slot_at (block_of s d.at.0) j) {t : Bool} (u : t ≡ taken (slot_of c)) where
   -- an empty slot holds no line
-  pub gone_empty : c.object.0 ≡ 0 → lines_in s d j ≡ lines_in s d (j + 1)
-  gone_empty = held-empty (objects (volume_of s)) d.at.0 d.depth (levels d.depth) j g.counted (g.read_is q)
+  pub gone_empty : t ≡ false → lines_in s d j ≡ lines_in s d (j + 1)
+  gone_empty e = held-empty (objects (volume_of s)) d.at.0 d.depth (levels d.depth) j g.counted (g.read_is q) (sym u ∙ e)
 
   -- the object of a taken one
-  pub gone_child : (c.object.0 ≡ 0 → ⊥) → {x : Node} → x ≡ child_of d c → Child s d j x
-  gone_child t {x} y =
+  pub gone_child : t ≡ true → {x : Node} → x ≡ child_of d c → Child s d j x
+  gone_child f {x} y =
       let e : (c.name.0, c.object.0) ≡ slot_at (block_in s d.at.0) j = g.read_is q in
       let o : ObjectAt s c.object.0 =
-      subst (λ (v : Slot). ObjectAt s v.1) (sym e) (g.object (λ z. t (ap (λ (v : Slot). v.1) e ∙ z))) in
+      subst (λ (v : Slot). ObjectAt s v.1) (sym e) (g.object (ap taken (sym e) ∙ sym u ∙ f)) in
       subst (Child s d j) (sym y) (record {
         there = record { object = o; low = omega (arith, g.low) };
         deeper = refl;
         below = omega (arith, g.low);
         parent_is = refl;
-        taken = t;
+        is-taken = sym u ∙ f;
         counted = g.counted;
         slot_is = e;
       })
@@ -167,7 +166,7 @@ child-levels c = omega (arith, c.below)
 module _ {s : List ℕ} {d : Node} {j : ℕ} {x : Node} (c : Child s d j x) where
   pub child-lines : lines_in s d j ≡ lines_at s x ++ lines_in s d (j + 1)
   child-lines =
-      held-taken (objects (volume_of s)) d.at.0 d.depth (levels d.depth) j c.counted c.slot_is c.taken
+      held-taken (objects (volume_of s)) d.at.0 d.depth (levels d.depth) j c.counted c.slot_is c.is-taken
       ∙ rw (child-levels c, sym c.deeper, sym c.parent_is)
 
   -- where those have room its object's have

@@ -152,9 +152,6 @@ pub record Storing (i : ℕ) (all rest : List Line) (before : List ℕ) (at : �
   pub left : at + length rest ≡ i + length all
   pub same_size : length now ≡ length before
 
-pub storing_start : (i : ℕ) (all : List Line) (m : List ℕ) → Storing i all all m i m
-storing_start i all m = record { carry = λ w. w; left = refl; same_size = refl }
-
 module _ {i : ℕ} {all rest : List Line} {before : List ℕ} {at : ℕ} {now : List ℕ} (w : Storing i all rest before at now) where
   pub storing_as : {xs : List Line} → rest ≡ xs → Storing i all xs before at now
   storing_as e = subst (λ (v : List Line). Storing i all v before at now) e w

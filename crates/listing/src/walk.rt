@@ -45,7 +45,7 @@ fn slots(image: &[u8], numbers: &mut [u64], node: Node, i: usize) -> usize
     let mut at = i;
     for j in 0..lines::open_slots(image, node) {
         let slot = fields::slot_at(image, node.at, j);
-        if slot.object.0 == 0 {
+        if !slot.is_taken() {
             continue;
         }
         if !block::is(image, slot.object, Kind::Directory) {

@@ -7,8 +7,8 @@ use Rattle.calls.specs.Refusal.{Accepted}
 use mathlib.Core.Path.{◌∙◌, ap}
 use Rattle.calls.proofs.reading.find.Goals as goal
 
-pub kind_at-requires : goal.kind_at-requires
-kind_at-requires c = start-object (λ i. (c.type_inv.image i).fits) _ _ _ c.in_ok-at.ensures
+pub invariant_of-kind_at-clause-there : goal.invariant_of-kind_at-clause-there
+invariant_of-kind_at-clause-there c = start-object (λ i. (c.type_inv.image i).fits) _ _ _ c.in_ok-at.ensures
 
 pub returns-in_err-at : goal.returns-in_err-at
 returns-in_err-at c = rw (err_is _ c.in_err-at.field-0.0 c.from_residual.ensures.1) (find-so _ _ _ c.in_err-at.ensures)

@@ -5,25 +5,25 @@ use native.Mathlib.Omega.{arith}
 use Rattle.calls.proofs.reading.kind_at.Goals as goal
 
 pub is-requires : goal.is-requires
-is-requires c = omega (arith, (object-at (λ i. (c.type_inv.image i).fits) c.requires).standing.fits)
+is-requires c = omega (arith, (object-at c.args.object.bytes c.args.object.there).standing.fits)
 
 pub taken_count-taken-requires : goal.taken_count-taken-requires
-taken_count-taken-requires c = (directory-stands (λ i. (c.type_inv.image i).fits) (object-directory (λ i. (c.type_inv.image i).fits) c.requires c.is.ensures c.if-is.true)).0
+taken_count-taken-requires c = (directory-stands c.args.object.bytes (object-directory c.args.object.bytes c.args.object.there c.is.ensures c.if-is.true)).0
 
 pub slot_count-total-requires : goal.slot_count-total-requires
-slot_count-total-requires c = (directory-stands (λ i. (c.type_inv.image i).fits) (object-directory (λ i. (c.type_inv.image i).fits) c.requires c.is.ensures c.if-is.true)).0
+slot_count-total-requires c = (directory-stands c.args.object.bytes (object-directory c.args.object.bytes c.args.object.there c.is.ensures c.if-is.true)).0
 
 pub returns-then-is : goal.returns-then-is
-returns-then-is c = kind-directory (λ i. (c.type_inv.image i).fits) (object-directory (λ i. (c.type_inv.image i).fits) c.requires c.is.ensures c.if-is.true) _ _ c.taken_count-taken.ensures c.slot_count-total.ensures
+returns-then-is c = kind-directory c.args.object.bytes (object-directory c.args.object.bytes c.args.object.there c.is.ensures c.if-is.true) _ _ c.taken_count-taken.ensures c.slot_count-total.ensures
 
 pub read_u64-size-requires : goal.read_u64-size-requires
-read_u64-size-requires c = (file-standing (λ i. (c.type_inv.image i).fits) (other-file (λ i. (c.type_inv.image i).fits) c.requires c.is.ensures c.if-is.false), omega (arith, file_numbers (λ i. (c.type_inv.image i).fits) (other-file (λ i. (c.type_inv.image i).fits) c.requires c.is.ensures c.if-is.false)))
+read_u64-size-requires c = (file-standing c.args.object.bytes (other-file c.args.object.bytes c.args.object.there c.is.ensures c.if-is.false), omega (arith, file_numbers c.args.object.bytes (other-file c.args.object.bytes c.args.object.there c.is.ensures c.if-is.false)))
 
 pub size_at-requires : goal.size_at-requires
-size_at-requires c = omega (arith, (file-standing (λ i. (c.type_inv.image i).fits) (other-file (λ i. (c.type_inv.image i).fits) c.requires c.is.ensures c.if-is.false)).fits)
+size_at-requires c = omega (arith, (file-standing c.args.object.bytes (other-file c.args.object.bytes c.args.object.there c.is.ensures c.if-is.false)).fits)
 
 pub overflow_sub-room : goal.overflow_sub-room
-overflow_sub-room c = omega (arith, file_numbers (λ i. (c.type_inv.image i).fits) (other-file (λ i. (c.type_inv.image i).fits) c.requires c.is.ensures c.if-is.false), c.size_at.ensures)
+overflow_sub-room c = omega (arith, file_numbers c.args.object.bytes (other-file c.args.object.bytes c.args.object.there c.is.ensures c.if-is.false), c.size_at.ensures)
 
 pub returns : goal.returns
-returns c = kind-file (λ i. (c.type_inv.image i).fits) (other-file (λ i. (c.type_inv.image i).fits) c.requires c.is.ensures c.if-is.false) c.read_u64-size.ensures c.size_at.ensures
+returns c = kind-file c.args.object.bytes (other-file c.args.object.bytes c.args.object.there c.is.ensures c.if-is.false) c.read_u64-size.ensures c.size_at.ensures

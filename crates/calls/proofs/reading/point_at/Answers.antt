@@ -7,24 +7,24 @@ use native.Mathlib.Omega.{arith}
 use Rattle.calls.proofs.reading.point_at.Goals as goal
 
 pub read_u64-size-requires : goal.read_u64-size-requires
-read_u64-size-requires c = (file-standing (λ i. (c.type_inv.image i).fits) c.requires.0, omega (arith, file_numbers (λ i. (c.type_inv.image i).fits) c.requires.0))
+read_u64-size-requires c = (file-standing c.args.file.bytes c.args.file.there, omega (arith, file_numbers c.args.file.bytes c.args.file.there))
 
 pub returns-then-size-n : goal.returns-then-size-n
 returns-then-size-n c =
-    let p = point_none (λ i. (c.type_inv.image i).fits) c.requires.0 c.read_u64-size.ensures c.args.n (omega arith) in
+    let p = point_none c.args.file.bytes c.args.file.there c.read_u64-size.ensures c.args.n (omega arith) in
     record { refusal_is = ap (λ (p : Point). p.refusal) p; bytes-is = ap (λ (p : Point). p.bytes) p }
 
 pub copy_out-requires : goal.copy_out-requires
 copy_out-requires c = (
-  file-standing (λ i. (c.type_inv.image i).fits) c.requires.0,
+  file-standing c.args.file.bytes c.args.file.there,
   point-inside
-      (λ i. (c.type_inv.image i).fits) c.requires.0 c.read_u64-size.ensures
-      c.args.n c.requires.1 (omega arith),
+      c.args.file.bytes c.args.file.there c.read_u64-size.ensures
+      c.args.n c.requires.0 (omega arith),
   search rules,
 )
 
 pub returns : goal.returns
 returns c =
-    point_some (λ i. (c.type_inv.image i).fits) c.requires.0
+    point_some c.args.file.bytes c.args.file.there
     c.read_u64-size.ensures c.args.n
-    c.requires.1 (omega arith) _ c.copy_out.ensures
+    c.requires.0 (omega arith) _ c.copy_out.ensures

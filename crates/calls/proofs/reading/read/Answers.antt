@@ -4,11 +4,11 @@ use Rattle.calls.proofs.Steps.{file-object}
 use Rattle.calls.proofs.Told.{err_is}
 use Rattle.calls.proofs.reading.read.Goals as goal
 
-pub returns-in_err-r : goal.returns-in_err-r
-returns-in_err-r c = rw (err_is _ c.in_err-r.field-0.0 c.from_residual.ensures.1) (read-refused _ _ _ _ _ c.in_err-r.ensures)
+pub returns-in_err-at : goal.returns-in_err-at
+returns-in_err-at c = rw (err_is _ c.in_err-at.field-0.0 c.from_residual.ensures.1) (read-refused _ _ _ _ _ c.in_err-at.ensures)
 
-pub copy_from-requires : goal.copy_from-requires
-copy_from-requires c = file-object (λ i. (c.type_inv.image i).fits) _ _ _ c.in_ok-r.ensures
+pub invariant_of-copy_from-clause-there : goal.invariant_of-copy_from-clause-there
+invariant_of-copy_from-clause-there c = file-object (λ i. (c.type_inv.image i).fits) _ _ _ c.in_ok-at.ensures
 
 pub returns : goal.returns
-returns c = read-file _ _ _ _ _ c.in_ok-r.ensures c.copy_from.ensures
+returns c = read-file _ _ _ _ _ c.in_ok-at.ensures c.copy_from.ensures

@@ -12,16 +12,15 @@ use mathlib.Core.Bool.{true, false, not}
 use Rattle.calls.proofs.slots.empty.Goals as goal
 
 pub slot_count-count-requires : goal.slot_count-count-requires
-slot_count-count-requires c = (directory-stands (λ i. (c.type_inv.image i).fits) c.requires).0
+slot_count-count-requires c = (directory-stands c.args.directory.bytes c.args.directory.there).0
 
 pub find-requires-clause-callable : goal.find-requires-clause-callable
 find-requires-clause-callable c =
-    let d = c.requires in
-    let n = slots-counted (λ i. (c.type_inv.image i).fits) d c.slot_count-count.ensures in
+    let n = slots-counted c.args.directory.bytes c.args.directory.there c.slot_count-count.ensures in
     serves_from_Range (λ x q k. search rules)
-    (λ x a l. let k : (y : ℕ) → y ≡ x → y < total (block_in c.args.image.now c.args.d.0) = λ y e. omega arith in search (rules, k))
+    (λ x a l. let k : (y : ℕ) → y ≡ x → y < total (block_in c.args.directory.image.now c.args.directory.at.0) = λ y e. omega arith in search (rules, k))
 
 pub returns : goal.returns
 returns c =
-    lowest_found _ _ c.requires.kind (slots-counted (λ i. (c.type_inv.image i).fits) c.requires c.slot_count-count.ensures) c.find.result
-    (first_from_Range _ _ _ c.find.result (λ i. true ≡ not (taken (slot_at (block_in c.args.image.now c.args.d.0) i))) (λ i. false ≡ not (taken (slot_at (block_in c.args.image.now c.args.d.0) i))) c.find.ensures.ran (λ x q k. search rules) (λ x q k. search rules))
+    lowest_found _ _ c.args.directory.there.kind (slots-counted c.args.directory.bytes c.args.directory.there c.slot_count-count.ensures) c.find.result
+    (first_from_Range _ _ _ c.find.result (λ i. true ≡ not (taken (slot_at (block_in c.args.directory.image.now c.args.directory.at.0) i))) (λ i. false ≡ not (taken (slot_at (block_in c.args.directory.image.now c.args.directory.at.0) i))) c.find.ensures.ran (λ x q k. search rules) (λ x q k. search rules))

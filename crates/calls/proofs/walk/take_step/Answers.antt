@@ -7,10 +7,10 @@ use native.Mathlib.Omega.{arith}
 use Rattle.calls.proofs.walk.take_step.Goals as goal
 
 pub is-requires : goal.is-requires
-is-requires c = omega (arith, (object-at (λ i. (c.type_inv.image i).fits) c.requires).standing.fits)
+is-requires c = omega (arith, (object-at c.args.here.bytes c.args.here.there).standing.fits)
 
 pub returns-then-not-is : goal.returns-then-not-is
-returns-then-not-is c = ap walked (step-blocked _ _ _ (no_directory (λ i. (c.type_inv.image i).fits) c.requires c.is.ensures c.if-not-is.true))
+returns-then-not-is c = ap walked (step-blocked _ _ _ (no_directory c.args.here.bytes c.args.here.there c.is.ensures c.if-not-is.true))
 
-pub child-requires : goal.child-requires
-child-requires c = object-directory (λ i. (c.type_inv.image i).fits) c.requires c.is.ensures c.if-not-is.false
+pub invariant_of-child-clause-there : goal.invariant_of-child-clause-there
+invariant_of-child-clause-there c = object-directory c.args.here.bytes c.args.here.there c.is.ensures c.if-not-is.false

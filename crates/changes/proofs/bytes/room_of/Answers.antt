@@ -4,10 +4,10 @@ use native.Mathlib.Omega.{arith}
 use Rattle.changes.proofs.bytes.room_of.Goals as goal
 
 pub size_at-requires : goal.size_at-requires
-size_at-requires c = omega (arith, (file-standing (λ i. (c.type_inv.image i).fits) c.requires).fits, file_numbers (λ i. (c.type_inv.image i).fits) c.requires)
+size_at-requires c = omega (arith, (file-standing c.args.file.bytes c.args.file.there).fits, file_numbers c.args.file.bytes c.args.file.there)
 
 pub overflow_sub-result : goal.overflow_sub-result
-overflow_sub-result c = omega (arith, file_numbers (λ i. (c.type_inv.image i).fits) c.requires, c.size_at.ensures)
+overflow_sub-result c = omega (arith, file_numbers c.args.file.bytes c.args.file.there, c.size_at.ensures)
 
 pub returns : goal.returns
-returns c = omega (arith, room-is (λ i. (c.type_inv.image i).fits) c.requires, c.size_at.ensures)
+returns c = omega (arith, room-is c.args.file.bytes c.args.file.there, c.size_at.ensures)

@@ -11,13 +11,13 @@ use native.Mathlib.Omega.{arith}
 use Rattle.changes.proofs.remove.holds_some.Goals as goal
 
 pub is-requires : goal.is-requires
-is-requires c = omega (arith, (object-at (λ i. (c.type_inv.image i).fits) c.requires).standing.fits)
+is-requires c = omega (arith, (object-at c.args.object.bytes c.args.object.there).standing.fits)
 
-pub returns-then-not-is : goal.returns-then-not-is
-returns-then-not-is c = holds_none _ (no_directory (λ i. (c.type_inv.image i).fits) c.requires c.is.ensures c.if-not-is.true)
+pub returns-else-is : goal.returns-else-is
+returns-else-is c = c.if-is.false ∙ holds_none _ (no_directory c.args.object.bytes c.args.object.there c.is.ensures c.if-is.false)
 
 pub taken_count-requires : goal.taken_count-requires
-taken_count-requires c = (directory-stands (λ i. (c.type_inv.image i).fits) (object-directory (λ i. (c.type_inv.image i).fits) c.requires c.is.ensures c.if-not-is.false)).0
+taken_count-requires c = (directory-stands c.args.object.bytes (object-directory c.args.object.bytes c.args.object.there c.is.ensures c.if-is.true)).0
 
-pub returns : goal.returns
-returns c = ap (λ (n : ℕ). not (eqb n 0)) (c.taken_count.ensures ∙ ap (λ (b : Block). taken_count (slots b)) (directory-stands (λ i. (c.type_inv.image i).fits) (object-directory (λ i. (c.type_inv.image i).fits) c.requires c.is.ensures c.if-not-is.false)).1)
+pub returns-then-is : goal.returns-then-is
+returns-then-is c = ap (λ (n : ℕ). not (eqb n 0)) (c.taken_count.ensures ∙ ap (λ (b : Block). taken_count (slots b)) (directory-stands c.args.object.bytes (object-directory c.args.object.bytes c.args.object.there c.is.ensures c.if-is.true)).1)

@@ -1,5 +1,5 @@
 -- remove_in: 3, 9, or cleared.
-use Rattle.calls.proofs.Stands.{directory-stands, slot_here, slot-object, slot_read}
+use Rattle.calls.proofs.Stands.{slot_here, slot-object, slot_read}
 use Rattle.calls.specs.Answers.{ObjectAt}
 use Rattle.changes.proofs.Removing.{found-taken, remove_cleared, remove-held, remove-missing}
 use Rattle.tree.specs.Fields.{Slot}
@@ -10,10 +10,10 @@ pub returns-in_default : goal.returns-in_default
 returns-in_default c = remove-missing _ _ _ c.in_default.ensures
 
 pub slot_at-requires : goal.slot_at-requires
-slot_at-requires c = ((directory-stands (λ i. (c.slice_known-1.given i).fits) c.requires).0, slot_here (λ i. (c.slice_known-1.given i).fits) c.requires _ (found-taken _ c.requires c.in-Some.ensures).slot)
+slot_at-requires c = slot_here (λ i. (c.slice_known-1.given i).fits) c.requires _ (found-taken _ c.requires c.in-Some.ensures).slot
 
-pub holds_some-requires : goal.holds_some-requires
-holds_some-requires c =
+pub invariant_of-holds_some-clause-there : goal.invariant_of-holds_some-clause-there
+invariant_of-holds_some-clause-there c =
     let k = found-taken _ c.requires c.in-Some.ensures in
     subst (λ (y : Slot). ObjectAt c.args.image.now y.1) (sym (slot_read (λ i. (c.slice_known-1.given i).fits) c.requires c.in-Some.i c.slot_at.ensures)) (slot-object (λ i. (c.slice_known-1.given i).fits) c.requires _ k.slot k.is-taken)
 

@@ -1,19 +1,13 @@
 -- object and slots: slots have twice their object's levels as measure, an object one more; the loop passes a slot in each turn.
 use Rattle.listing.proofs.Held.{gone, gone_child}
-use Rattle.listing.proofs.Seeking.{goes_begun, goes_own, passing_empty, passing_end, passing_found, passing_on, passing_start}
+use Rattle.listing.proofs.Seeking.{goes_own, passing_empty, passing_end, passing_found, passing_on}
 use mathlib.Core.Path.{◌∙◌, refl, sym}
 use native.Mathlib.Omega.{arith}
 use Rattle.listing.proofs.seek.+object_slots.Goals as goal
-use Rattle.listing.proofs.seek.+object_slots.Goals.{slots-then-slot-ne0+else-is_some, slots-else-slot-ne0}
-
-pub object-returns-then-cursor-node-ne0 : goal.object-returns-then-cursor-node-ne0
-object-returns-then-cursor-node-ne0 t c = goes_begun _ _ _ _ _ _ c.if-cursor-node-ne0.true c.slots.ensures
+use Rattle.listing.proofs.seek.+object_slots.Goals.{slots-then-is_taken+else-is_some, slots-else-is_taken}
 
 pub object-returns : goal.object-returns
 object-returns t c = goes_own _ _ _ _ _ _ c.if-cursor-node-ne0.false c.place.ensures c.line_of.ensures
-
-pub slots-loop-i-init : goal.slots-loop-i-init
-slots-loop-i-init t c = passing_start _ _ _ c.from-first.ensures c.requires.1
 
 pub slots-slot_at-slot-requires : goal.slots-slot_at-slot-requires
 slots-slot_at-slot-requires t c = (gone (λ i. (c.type_inv.image i).fits) c.requires.0 c.open_slots-i-end.ensures c.loop-i-test.true).read
@@ -24,13 +18,13 @@ slots-child-requires t c = (gone (λ i. (c.type_inv.image i).fits) c.requires.0 
 pub slots-object-line-requires : goal.slots-object-line-requires
 slots-object-line-requires t c =
     let g = gone (λ i. (c.type_inv.image i).fits) c.requires.0 c.open_slots-i-end.ensures c.loop-i-test.true in
-    let k = gone_child g c.slot_at-slot.ensures c.if-slot-ne0.true c.child.ensures in
+    let k = gone_child g c.slot_at-slot.ensures c.is_taken.ensures c.if-is_taken.true c.child.ensures in
     (omega (arith, c.decreases, k.below), k.there)
 
 pub slots-returns-then-is_some : goal.slots-returns-then-is_some
 slots-returns-then-is_some t c =
     let g = gone (λ i. (c.type_inv.image i).fits) c.requires.0 c.open_slots-i-end.ensures c.loop-i-test.true in
-    passing_found c.loop-i.invariant _ (gone_child g c.slot_at-slot.ensures c.if-slot-ne0.true c.child.ensures)
+    passing_found c.loop-i.invariant _ (gone_child g c.slot_at-slot.ensures c.is_taken.ensures c.if-is_taken.true c.child.ensures)
     c.object-line.ensures (sym c.is_some.ensures ∙ c.if-is_some.true)
 
 pub slots-overflow_add-i : goal.slots-overflow_add-i
@@ -42,11 +36,11 @@ slots-overflow_cast-i t c = omega (arith, (gone (λ i. (c.type_inv.image i).fits
 pub slots-loop-i-preserved : goal.slots-loop-i-preserved
 slots-loop-i-preserved t c =
     let g = gone (λ i. (c.type_inv.image i).fits) c.requires.0 c.open_slots-i-end.ensures c.loop-i-test.true in
-    elim c.if-slot-ne0.branch [
-      | slots-then-slot-ne0+else-is_some w ↦
-          passing_on c.loop-i.invariant refl c.place.ensures w.cursor-is (gone_child g c.slot_at-slot.ensures w.if-slot-ne0.true w.child.ensures) _
+    elim c.if-is_taken.branch [
+      | slots-then-is_taken+else-is_some w ↦
+          passing_on c.loop-i.invariant refl c.place.ensures w.cursor-is (gone_child g c.slot_at-slot.ensures c.is_taken.ensures w.if-is_taken.true w.child.ensures) _
           w.object-line.ensures (sym w.is_some.ensures ∙ w.if-is_some.false)
-      | slots-else-slot-ne0 w ↦ passing_empty c.loop-i.invariant refl c.place.ensures w.cursor-is g c.slot_at-slot.ensures w.if-slot-ne0.false
+      | slots-else-is_taken w ↦ passing_empty c.loop-i.invariant refl c.place.ensures w.cursor-is g c.slot_at-slot.ensures c.is_taken.ensures w.if-is_taken.false
     ]
 
 pub slots-returns : goal.slots-returns
