@@ -47,10 +47,9 @@ abbrev pub kind_is : declared-kind.Kind → Kind
 kind_is (File size room) = file size room
 kind_is (Directory taken total) = directory taken total
 
--- what find tells: on a refusal all else is zero
-abbrev pub found_of : Result declared-found.Found declared-refusal.Refusal → Found
-found_of (Ok f) = record { refusal = Accepted; at = f.at.0; kind = kind_is f.kind }
-found_of (Err r) = record { refusal = refused_as r; at = 0; kind = file 0 0 }
+-- what find tells
+abbrev pub found_of : declared-found.Found → Found
+found_of f = record { refusal = outcome_of f.refusal; at = f.at.0; kind = kind_is f.kind }
 
 -- how many bytes a read tells: none on a refusal
 abbrev pub count_of : Result ℕ declared-refusal.Refusal → ℕ

@@ -19,8 +19,10 @@ pub enum Kind {
     Directory { taken: u64, total: u64 },
 }
 
+// Find's answer: on a refusal all else is zero.
 #[derive(Clone, Copy)]
 pub struct Found {
+    pub refusal: Result<(), Refusal>,
     pub at: Ref,
     pub kind: Kind,
 }
@@ -41,14 +43,21 @@ pub fn kind_at(object: Object) -> Kind
 }
 
 // What the path names.
-pub fn find(image: &[u8], path: &[u8]) -> Result<Found, Refusal>
+pub fn find(image: &[u8], path: &[u8]) -> Found
     ensures { found_of result ≡ spec.find image.now path.now }
 {
-    let at = walk::begin(image, path, true)?;
-    Ok(Found {
-        at,
-        kind: kind_at(Object { image, at }),
-    })
+    match walk::begin(image, path, true) {
+        Err(refusal) => Found {
+            refusal: Err(refusal),
+            at: Ref(0),
+            kind: Kind::File { size: 0, room: 0 },
+        },
+        Ok(at) => Found {
+            refusal: Ok(()),
+            at,
+            kind: kind_at(Object { image, at }),
+        },
+    }
 }
 
 // The bytes of the file from the position on, to the front of the buffer: how many.

@@ -36,8 +36,8 @@ pub fn check(rt: &impl Print, text: &str, image: &[u8; 256]) -> io::Result<()> {
 
 pub fn find(rt: &impl Print, image: &[u8], path: &str) -> io::Result<()> {
     let found = reading::find(image, path.as_bytes());
-    let answer = Answer::of(&found);
-    let at = found.map_or(0, |f| f.at.0);
+    let answer = Answer::of(&found.refusal);
+    let at = found.at.0;
     println!(rt; "find \"{path}\": {answer}, ref {at}")
 }
 

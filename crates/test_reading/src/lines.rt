@@ -1,6 +1,5 @@
 // The line of a call: its arguments, and what it answers.
 
-use calls::reading::Kind;
 use calls::{check, reading};
 use show::text::{Answer, Hex, Shown};
 use std::io;
@@ -12,11 +11,8 @@ pub fn show_check(rt: &impl Print, text: &str, image: &[u8]) -> io::Result<()> {
 
 fn show_find(rt: &impl Print, image: &[u8], path: &str) -> io::Result<()> {
     let found = reading::find(image, path.as_bytes());
-    let answer = Answer::of(&found);
-    let (at, kind) = match found {
-        Ok(f) => (f.at.0, Shown(f.kind)),
-        Err(_) => (0, Shown(Kind::File { size: 0, room: 0 })),
-    };
+    let answer = Answer::of(&found.refusal);
+    let (at, kind) = (found.at.0, Shown(found.kind));
     println!(rt; "find \"{path}\": {answer}, ref {at}, {kind}")
 }
 
