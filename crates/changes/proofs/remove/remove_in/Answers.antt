@@ -16,7 +16,8 @@ slot_at-requires c = slot_here (λ i. (c.slice_known-1.given i).fits) c.requires
 pub invariant_of-holds_some-clause-there : goal.invariant_of-holds_some-clause-there
 invariant_of-holds_some-clause-there c =
     let k = found-taken _ c.requires c.in-Some.ensures in
-    subst (λ (y : Slot). ObjectAt c.args.image.now y.1) (sym (slot_read (λ i. (c.slice_known-1.given i).fits) c.requires c.in-Some.i c.slot_at.ensures)) (slot-object (λ i. (c.slice_known-1.given i).fits) c.requires _ k.slot k.is-taken)
+    let h : AllBytes c.args.image.now = λ i. (c.slice_known-1.given i).fits in
+    subst (λ (y : Slot). ObjectAt c.args.image.now y.1) (sym (slot_read h c.requires c.in-Some.i c.slot_at.ensures)) (slot-object h c.requires _ k.slot k.is-taken)
 
 pub returns-then-holds_some : goal.returns-then-holds_some
 returns-then-holds_some c =
