@@ -17,7 +17,9 @@ pub returns-then-is : goal.returns-then-is
 returns-then-is c = kind-directory c.args.object.bytes (object-directory c.args.object.bytes c.args.object.there c.is.ensures c.if-is.true) _ _ c.taken_count-taken.ensures c.slot_count-total.ensures
 
 pub read_u64-size-requires : goal.read_u64-size-requires
-read_u64-size-requires c = (file-standing c.args.object.bytes (other-file c.args.object.bytes c.args.object.there c.is.ensures c.if-is.false), omega (arith, file_numbers c.args.object.bytes (other-file c.args.object.bytes c.args.object.there c.is.ensures c.if-is.false)))
+read_u64-size-requires c =
+    let f = other-file c.args.object.bytes c.args.object.there c.is.ensures c.if-is.false in
+    (file-standing c.args.object.bytes f, omega (arith, file_numbers c.args.object.bytes f))
 
 pub size_at-requires : goal.size_at-requires
 size_at-requires c = omega (arith, (file-standing c.args.object.bytes (other-file c.args.object.bytes c.args.object.there c.is.ensures c.if-is.false)).fits)

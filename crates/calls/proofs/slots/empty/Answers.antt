@@ -23,4 +23,7 @@ find-requires-clause-callable c =
 pub returns : goal.returns
 returns c =
     lowest_found _ _ c.args.directory.there.kind (slots-counted c.args.directory.bytes c.args.directory.there c.slot_count-count.ensures) c.find.result
-    (first_from_Range _ _ _ c.find.result (λ i. true ≡ not (taken (slot_at (block_in c.args.directory.image.now c.args.directory.at.0) i))) (λ i. false ≡ not (taken (slot_at (block_in c.args.directory.image.now c.args.directory.at.0) i))) c.find.ensures.ran (λ x q k. search rules) (λ x q k. search rules))
+    (first_from_Range _ _ _ c.find.result
+    (λ i. true ≡ not (taken (slot_at (block_in c.args.directory.image.now c.args.directory.at.0) i)))
+    (λ i. false ≡ not (taken (slot_at (block_in c.args.directory.image.now c.args.directory.at.0) i)))
+    c.find.ensures.ran (λ x q k. search rules) (λ x q k. search rules))

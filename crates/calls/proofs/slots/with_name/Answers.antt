@@ -24,4 +24,7 @@ find-requires-clause-callable c =
 pub returns : goal.returns
 returns c =
     lowest_found _ _ c.args.directory.there.kind (slots-counted c.args.directory.bytes c.args.directory.there c.slot_count-count.ensures) c.find.result
-    (first_from_Range _ _ _ c.find.result (λ i. true ≡ named c.args.directory.image.now c.args.directory.at.0 i c.args.name.now) (λ i. false ≡ named c.args.directory.image.now c.args.directory.at.0 i c.args.name.now) c.find.ensures.ran (λ x q k. search rules) (λ x q k. search rules))
+    (first_from_Range _ _ _ c.find.result
+    (λ i. true ≡ named c.args.directory.image.now c.args.directory.at.0 i c.args.name.now)
+    (λ i. false ≡ named c.args.directory.image.now c.args.directory.at.0 i c.args.name.now)
+    c.find.ensures.ran (λ x q k. search rules) (λ x q k. search rules))

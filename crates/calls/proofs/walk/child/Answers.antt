@@ -16,4 +16,5 @@ slot_at-requires c = slot_here c.args.directory.bytes c.args.directory.there _ (
 
 pub returns : goal.returns
 returns c =
-    ap (λ (x : Slot). reached x.1) (slot_read c.args.directory.bytes c.args.directory.there c.in-Some.i c.slot_at.ensures) ∙ ap walked (step-found _ _ c.args.directory.there.kind _ (some _) c.in-Some.ensures)
+    ap (λ (x : Slot). reached x.1) (slot_read c.args.directory.bytes c.args.directory.there c.in-Some.i c.slot_at.ensures)
+    ∙ ap walked (step-found _ _ c.args.directory.there.kind _ (some _) c.in-Some.ensures)

@@ -20,4 +20,6 @@ pub taken_count-requires : goal.taken_count-requires
 taken_count-requires c = (directory-stands c.args.object.bytes (object-directory c.args.object.bytes c.args.object.there c.is.ensures c.if-is.true)).0
 
 pub returns-then-is : goal.returns-then-is
-returns-then-is c = ap (λ (n : ℕ). not (eqb n 0)) (c.taken_count.ensures ∙ ap (λ (b : Block). taken_count (slots b)) (directory-stands c.args.object.bytes (object-directory c.args.object.bytes c.args.object.there c.is.ensures c.if-is.true)).1)
+returns-then-is c =
+    ap (λ (n : ℕ). not (eqb n 0))
+    (c.taken_count.ensures ∙ ap (λ (b : Block). taken_count (slots b)) (directory-stands c.args.object.bytes (object-directory c.args.object.bytes c.args.object.there c.is.ensures c.if-is.true)).1)
