@@ -9,8 +9,8 @@ use borrow.Author.Tests.{ltb-true, ltb-false}
 use lib.ListN.{length}
 use denote.Ref.{Bor}
 use Rattle.std.specs.Prelude.{Some, None}
-use Rattle.storage.specs.declared.Ref.{Ref}
-use Rattle.alloc.specs.declared.block.Blocks.{Blocks}
+use Rattle.alloc.specs.declared.access.Block.{Block}
+use Rattle.alloc.specs.declared.tiled.Blocks.{Blocks}
 use Rattle.alloc.specs.Block.{units_for, size_at, block_of}
 use Rattle.alloc.specs.Volume.{Extent, extent_of, volume_of}
 use Rattle.alloc.specs.Sound.{size_of, end_of, Tiled, Standing}
@@ -67,10 +67,11 @@ pub record OnBlocks (s : List ℕ) (b : Blocks) : Type 0 where
   pub reached : Reached b.image.now b.next.0
   pub image : b.image.now ≡ s
 
--- a call of next took b to c, and gave the ref x
-pub record Passed (s : List ℕ) (b c : Blocks) (x : Ref) : Type 0 where
+-- a call of next took b to c, and gave the block x
+pub record Passed (s : List ℕ) (b c : Blocks) (x : Block) : Type 0 where
   pub walk : OnBlocks s c
-  pub here : x.0 ≡ b.next.0
+  pub image : x.image.now ≡ s
+  pub here : x.at.0 ≡ b.next.0
   pub standing : Standing s b.next.0
   pub more : 16 * b.next.0 < length s
   pub next : c.next.0 ≡ b.next.0 + units_for (size_at s b.next.0)
@@ -85,15 +86,16 @@ walk_starts {s} {b} {c} (e, f, w) q = (
 )
 
 module _ {s : List ℕ} {b : Blocks} (w : OnBlocks s b) where
-  pub passed : (c : Blocks) {x : Ref} → (c.image ≡ b.image) × Passes b.image.now b.next.0 (Some x) c.next.0 → Passed s b c x
-  passed c {x} g =
+  pub passed : (c : Blocks) (x : Block) → (c.image ≡ b.image) × Passes b.image.now b.next.0 (Some x) c.next.0 → Passed s b c x
+  passed c x g =
       let k : Reached s b.next.0 = subst (λ (i : List ℕ). Reached i b.next.0) w.image w.reached in
-      let h : 16 * b.next.0 < length s = subst (λ (i : List ℕ). 16 * b.next.0 < length i) w.image g.1.1 in
-      let n : c.next.0 ≡ b.next.0 + units_for (size_at s b.next.0) = g.1.2 ∙ ap (λ (i : List ℕ). b.next.0 + units_for (size_at i b.next.0)) w.image in
+      let h : 16 * b.next.0 < length s = subst (λ (i : List ℕ). 16 * b.next.0 < length i) w.image g.1.2 in
+      let n : c.next.0 ≡ b.next.0 + units_for (size_at s b.next.0) = g.1.3 ∙ ap (λ (i : List ℕ). b.next.0 + units_for (size_at i b.next.0)) w.image in
       let e : c.image.now ≡ s = ap (λ (i : Bor (List ℕ)). i.now) g.0 ∙ w.image in
       record {
         walk = record { reached = subst (λ (i : List ℕ). Reached i c.next.0) (sym e) (reached_on k h c.next.0 n); image = e };
-        here = g.1.0;
+        image = g.1.0 ∙ w.image;
+        here = g.1.1;
         standing = reached_standing k h;
         more = h;
         next = n;

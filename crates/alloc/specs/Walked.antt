@@ -1,7 +1,7 @@
 -- Walks over the blocks of a tiled image, and along the free chain of a sound one, as iterators give them.
 use Rattle.std.specs.Prelude.{ℕ, ◌+◌, ◌*◌, ◌/◌, ◌≤◌, ◌<◌, List, ◌∷◌, ◌++◌, ◌≡◌, length, Bool, ◌&&◌, Option, Some, None}
 use Rattle.storage.specs.Bytes.{u64_at}
-use Rattle.storage.specs.declared.Ref.{Ref}
+use Rattle.alloc.specs.declared.access.Block as declared-block
 use Rattle.alloc.specs.declared.fit.Gap.{Gap}
 use Rattle.alloc.specs.Block.{Block, units, units_for, size_at}
 use Rattle.alloc.specs.Volume.{Extent, volume_of, linked}
@@ -18,10 +18,10 @@ pub record Reached (s : List ℕ) (r : ℕ) : Type 0 where
   pub ref : end_of 2 past ≡ r
   pub inside : 16 * r ≤ length s
 
--- a step of the walk, from ref r to ref q: it gives the ref of the block at r, or nothing where the image ends
-abbrev pub Passes : List ℕ → ℕ → Option Ref → ℕ → Type 0
+-- a step of the walk, from ref r to ref q: it gives the block at r, or nothing where the image ends
+abbrev pub Passes : List ℕ → ℕ → Option declared-block.Block → ℕ → Type 0
 Passes s r None q = length s ≤ 16 * r
-Passes s r (Some x) q = (x.0 ≡ r) × (16 * r < length s) × (q ≡ r + units_for (size_at s r))
+Passes s r (Some x) q = (x.image.now ≡ s) × (x.at.0 ≡ r) × (16 * r < length s) × (q ≡ r + units_for (size_at s r))
 
 -- the ref n that stands at byte h of the sound image s is the next of the free chain, 0 at its end
 pub record OnChain (s : List ℕ) (h n : ℕ) : Type 0 where

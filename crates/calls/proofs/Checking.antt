@@ -54,6 +54,10 @@ module _ (s : List ℕ) where
       go true h e = h
       go false h e = cc
 
+  pub formed_checked : well_formed s ≡ true → Accepted ≡ check s
+  unfolding check well_formed
+  formed_checked e = sym (ap (λ (q : Bool). cond q Accepted (broken (verdict s))) e)
+
   pub checked_broken : (r : declared-refusal.Refusal) → refused_as r ≡ check s → well_formed s ≡ false
   unfolding check well_formed
   checked_broken r e = go (well_formed s) refl e

@@ -1,101 +1,94 @@
 -- The bytes of a file, as code copies them.
-use Prim.Native.Nat.{ℕ, ◌+◌, ◌*◌, ◌-◌, ◌<◌, ◌≤◌, min}
-use mathlib.Core.List.{List, [], ◌++◌, append-nil}
+use Prim.Native.Nat.{ℕ, ◌+◌, ◌-◌, ◌<◌, ◌≤◌, min}
+use mathlib.Core.List.{List, [], ◌++◌}
 use mathlib.Core.Path.{◌≡◌, refl, ap, sym, ◌∙◌, subst}
-use mathlib.Core.Bool.{Bool, true, false, cond}
+use mathlib.Core.Bool.{Bool, true, false}
 use native.Mathlib.Omega.{arith}
 use lib.Dec.{leb}
-use borrow.Author.Tests.{leb-true, leb-false, eqb-true, le-leb, lt-leb, ne_eqb}
+use borrow.Author.Tests.{leb-true, leb-false, eqb-true, ne_eqb}
 use lib.ListN.{length, take, drop, length-take}
 use lib.Seq.{take_all, take-take, drop-drop}
-use Rattle.storage.specs.Bytes.{u64_at, splice, zeroed}
+use Rattle.storage.specs.Bytes.{splice, u64_at}
 use Rattle.storage.proofs.Numbers.{AllBytes}
 use Rattle.storage.proofs.Runs.{length_part, drop-take}
 use Rattle.storage.proofs.Splice.{splice_none}
-use Rattle.alloc.specs.Block.{Block, SFde, SFre, after, size_at, block_of}
+use Rattle.alloc.specs.Block.{Block, SFde, SFre, size_at, block_of}
 use Rattle.alloc.specs.Sound.{Standing}
 use Rattle.alloc.proofs.Cuts.{block_size}
-use Rattle.tree.specs.Fields.{is_dir, is_file, total, slots, taken_count, file_size, room, content}
+use Rattle.tree.specs.Fields.{is_dir, is_file, file_size, room, content}
 use Rattle.tree.proofs.Formed.{formed-file}
 use Rattle.tree.proofs.Tests.{file_data_size}
-use Rattle.calls.specs.Reading.{block_in, kind_of, Point, no_point, point_of, file, directory}
-use Rattle.calls.specs.declared.refusal.Reason.TheVariants.{PastEnd}
-use Rattle.calls.specs.Refusal.{Accepted, For}
-use Rattle.calls.specs.Answers.{DirectoryIn, FileIn, Copies, Points}
-use Rattle.calls.proofs.Stands.{directory-stands, file-stands}
+use Rattle.calls.specs.Reading.{block_in}
+use Rattle.calls.specs.Answers.{FileIn, Copies}
+use Rattle.calls.proofs.Stands.{file-stands}
 
--- ---- the kind of an object
-
+-- a file is no directory
 pub file_no_dir : (b : Block) → is_file b ≡ true → is_dir b ≡ false
 file_no_dir b e = let m = eqb-true b.magic SFre e in ne_eqb b.magic SFde (λ q. omega arith)
 
-pub kind-directory : {s : List ℕ} → AllBytes s → {r : ℕ} (d : DirectoryIn s r) (n m : ℕ) → n ≡ taken_count (slots (block_of s r)) → m ≡ total (block_of s r)
-    → directory n m ≡ kind_of (block_in s r)
-kind-directory {s} h {r} d n m e f =
-    let b = (directory-stands h d).1 in
-    ap (λ (x : ℕ). directory x m) (e ∙ ap (λ (y : Block). taken_count (slots y)) b)
-    ∙ ap (λ (x : ℕ). directory (taken_count (slots (block_in s r))) x) (f ∙ ap total b)
-    ∙ sym (ap (λ (t : Bool). cond t (directory (taken_count (slots (block_in s r))) (total (block_in s r))) (file (file_size (block_in s r)) (room (block_in s r)))) d.kind)
-
--- n bytes from position p of the file's bytes: those of the data, as long as they lie within the file size
-pub part_of_content : (b : Block) (p n l : ℕ) → n ≡ min l (file_size b - p) → take l (drop p (content b)) ≡ take n (drop (16 + p) b.body)
+-- l bytes from position p of the file's bytes lie in the data behind the file size
+part_of_content : (b : Block) (p l : ℕ) → p + l ≤ file_size b → take l (drop (16 + p) b.body) ≡ take l (drop p (content b))
 unfolding content
-part_of_content b p n l e =
-    let z : ℕ = file_size b in
-    ap (take l) (drop-take p z (drop 16 b.body))
-    ∙ take-both l (z - p) n (drop p (drop 16 b.body)) e
-    ∙ ap (take n) (drop-drop p 16 b.body)
+part_of_content b p l h =
+    sym
+    (ap (take l) (drop-take p (file_size b) (drop 16 b.body))
+    ∙ take-take l (file_size b - p) (drop p (drop 16 b.body)) (omega arith)
+    ∙ ap (take l) (drop-drop p 16 b.body))
+
+-- from position p on no more than n of them are left
+cut_at_end : (b : Block) (p l n : ℕ) → n ≡ min l (file_size b - p) → take l (drop p (content b)) ≡ take n (drop p (content b))
+unfolding content
+cut_at_end b p l n e = rw (drop-take p (file_size b) (drop 16 b.body)) (go (leb l m) refl)
   where
-    take-both : (l m n : ℕ) (s : List ℕ) → n ≡ min l m → take l (take m s) ≡ take n s
-    take-both l m n s e = go (leb l m) refl
-      where
-        go : (t : Bool) → leb l m ≡ t → take l (take m s) ≡ take n s
-        go true q =
-            let h = leb-true l m q in
-            let f : l ≡ n = omega arith in
-            take-take l m s h ∙ ap (λ (k : ℕ). take k s) f
-        go false q =
-            let h = leb-false l m q in
-            let f : m ≡ n = omega arith in
-            take_all l (take m s) (omega (arith, length-take m s)) ∙ ap (λ (k : ℕ). take k s) f
+    m : ℕ
+    m = file_size b - p
+
+    xs : List ℕ
+    xs = take m (drop p (drop 16 b.body))
+
+    go : (t : Bool) → leb l m ≡ t → take l xs ≡ take n xs
+    go true q =
+        let k : l ≡ n = omega (arith, leb-true l m q) in
+        ap (λ (i : ℕ). take i xs) k
+    go false q =
+        let k = leb-false l m q in
+        let y = length-take m (drop p (drop 16 b.body)) in
+        take_all l xs (omega (arith, y)) ∙ sym (take_all n xs (omega (arith, y)))
 
 module _ {s : List ℕ} (h : AllBytes s) {r : ℕ} (f : FileIn s r) where
   pub file-standing : Standing s r
   file-standing = (file-stands h f).0.standing
 
   block-is : block_of s r ≡ block_in s r
-  block-is = (file-stands h f).0.block
+  block-is = (file-stands h f).1
 
   -- the numbers of a file, as they are read
   pub file_numbers : (16 ≤ size_at s r) × (size_at s r ≤ 65552)
-  file_numbers = file_data_size file-standing (file-stands h f).1
+  file_numbers = file_data_size file-standing (file-stands h f).0.magic
 
   pub room-is : room (block_in s r) ≡ size_at s r - 16
   room-is = ap room (sym block-is) ∙ ap (λ (n : ℕ). n - 16) (block_size s r file-standing.fits)
 
-  pub kind-file : {n m : ℕ} → n ≡ u64_at (block_of s r).body 0 → m ≡ size_at s r → file n (m - 16) ≡ kind_of (block_in s r)
-  kind-file {n} {m} e g =
-      ap (λ (x : ℕ). file x (m - 16)) (e ∙ ap file_size block-is)
-      ∙ ap (λ (x : ℕ). file (file_size (block_in s r)) x) (ap (λ (x : ℕ). x - 16) g ∙ sym room-is)
-      ∙ sym (ap (λ (t : Bool). cond t (directory (taken_count (slots (block_in s r))) (total (block_in s r))) (file (file_size (block_in s r)) (room (block_in s r))))
-      (file_no_dir (block_in s r) f.kind))
+  pub size-read : {z : ℕ} → z ≡ u64_at (block_of s r).body 0 → z ≡ file_size (block_in s r)
+  size-read e = e ∙ ap file_size block-is
 
-  pub size_low : file_size (block_in s r) ≤ size_at s r - 16
-  size_low = subst (λ (n : ℕ). file_size (block_in s r) ≤ n) room-is (formed-file s h f.formed r f.kind).0
+  -- its bytes lie in its data
+  pub file_end : (file_size (block_in s r) + 16 ≤ size_at s r) × (size_at s r ≤ 65552)
+  file_end = let e = subst (λ (n : ℕ). file_size (block_in s r) ≤ n) room-is (formed-file s h f.formed r f.kind).0 in omega (arith, e, file_numbers)
 
-  module _ {z : ℕ} (e : z ≡ u64_at (block_of s r).body 0) where
-    pub size-read : z ≡ file_size (block_in s r)
-    size-read = e ∙ ap file_size block-is
+  pub content_part : (p l : ℕ) → p + l ≤ file_size (block_in s r) → take l (drop (16 + p) (block_of s r).body) ≡ take l (drop p (content (block_in s r)))
+  content_part p l k = ap (λ (b : Block). take l (drop (16 + p) b.body)) block-is ∙ part_of_content (block_in s r) p l k
 
-    pub size-high : (z + 16 ≤ size_at s r) × (size_at s r ≤ 65552)
-    size-high = omega (arith, size-read, size_low, file_numbers)
+  length-content_part : (p l : ℕ) → p + l ≤ file_size (block_in s r) → length (take l (drop p (content (block_in s r)))) ≡ l
+  length-content_part p l k =
+      sym (ap length (content_part p l k))
+      ∙ length_part (block_of s r).body (16 + p) l (omega (arith, k, file_end, block_size s r file-standing.fits))
 
-    -- nothing from the position on
-    pub copies_none : (p : ℕ) (buffer : List ℕ) → z ≤ p → Copies s r p buffer 0 buffer
-    unfolding content
-    copies_none p buffer l =
-        let n : 0 ≡ min (length buffer) (file_size (block_in s r) - p) = omega (arith, size-read) in
-        let q : take (length buffer) (drop p (content (block_in s r))) ≡ [] = part_of_content (block_in s r) p 0 (length buffer) n in
+  -- what is copied from position p on, of a file of z bytes
+  module _ {z : ℕ} (e : z ≡ file_size (block_in s r)) (p : ℕ) (buffer : List ℕ) where
+    pub copies_none : z ≤ p → Copies s r p buffer 0 buffer
+    copies_none l =
+        let q : take (length buffer) (drop p (content (block_in s r))) ≡ [] = cut_at_end (block_in s r) p (length buffer) 0 (omega (arith, e)) in
         record {
           bytes = record {
             refusal_is = refl;
@@ -104,54 +97,20 @@ module _ {s : List ℕ} (h : AllBytes s) {r : ℕ} (f : FileIn s r) where
           };
         }
 
-    -- n bytes
-    module _ (p n : ℕ) (buffer : List ℕ) (l : p < z) (m : n ≡ min (length buffer) (z - p)) where
-      pub copy_inside : (16 + p + n ≤ size_at s r) × (n ≤ length buffer)
-      copy_inside = omega (arith, size-read, size_low, file_numbers)
-
-      pub copies_some : (after : List ℕ) → after ≡ splice buffer 0 (take n (drop (16 + p) (block_of s r).body)) → Copies s r p buffer n after
-      copies_some after g =
-          let k : n ≡ min (length buffer) (file_size (block_in s r) - p) = omega (arith, size-read) in
-          let q : take (length buffer) (drop p (content (block_in s r))) ≡ take n (drop (16 + p) (block_in s r).body) = part_of_content (block_in s r) p n (length buffer) k in
-          let b : length (block_in s r).body ≡ size_at s r = ap (λ (x : Block). length x.body) (sym block-is) ∙ block_size s r file-standing.fits in
+    module _ (n : ℕ) (l : p < z) (m : n ≡ min (length buffer) (z - p)) where
+      pub copies_some : {bytes : List ℕ} → bytes ≡ take (length (take n buffer)) (drop p (content (block_in s r))) → Copies s r p buffer n (bytes ++ drop n buffer)
+      unfolding splice
+      copies_some {bytes} g =
+          let y : length (take n buffer) ≡ n = omega (arith, length-take n buffer) in
+          let x : List ℕ = take n (drop p (content (block_in s r))) in
+          let c : take (length buffer) (drop p (content (block_in s r))) ≡ x = cut_at_end (block_in s r) p (length buffer) n (omega (arith, e)) in
+          let k : length x ≡ n = length-content_part p n (omega (arith, e)) in
+          let j : n ≡ 0 + length x = omega (arith, k) in
+          let b : bytes ≡ x = g ∙ ap (λ (i : ℕ). take i (drop p (content (block_in s r)))) y in
           record {
             bytes = record {
               refusal_is = refl;
-              count-is = sym (ap length q ∙ length_part (block_in s r).body (16 + p) n (omega (arith, copy_inside)));
-              buffer-is = g ∙ ap (λ (x : Block). splice buffer 0 (take n (drop (16 + p) x.body))) block-is ∙ ap (splice buffer 0) (sym q);
+              count-is = sym (ap length c ∙ k);
+              buffer-is = ap (λ (t : List ℕ). t ++ drop n buffer) b ∙ ap (λ (i : ℕ). x ++ drop i buffer) j ∙ ap (splice buffer 0) (sym c);
             };
           }
-
-    -- a point
-    pub point_none : (n : ℕ) → z < 16 * n → no_point (For PastEnd) ≡ point_of n (block_in s r)
-    point_none n l = sym (rw (lt-leb (16 * n) (file_size (block_in s r)) (omega (arith, size-read))))
-
-    module _ (n : ℕ) (p : 0 < n) (l : 16 * n ≤ z) where
-      pub point-inside : 16 * n + 16 ≤ size_at s r
-      point-inside = omega (arith, size-read, size_low, file_numbers)
-
-      pub point_some : (after : List ℕ) → after ≡ splice (zeroed 16) 0 (take 16 (drop (16 * n) (block_of s r).body)) → Points (point_of n (block_in s r)) Accepted after
-      unfolding splice
-      point_some after g =
-          let i : ℕ = 16 * (n - 1) in
-          let a : 16 + i ≡ 16 * n = omega arith in
-          let k : 16 ≡ min 16 (file_size (block_in s r) - i) = omega (arith, size-read) in
-          let q : take 16 (drop i (content (block_in s r))) ≡ take 16 (drop (16 + i) (block_in s r).body) = part_of_content (block_in s r) i 16 16 k in
-          let b : length (block_in s r).body ≡ size_at s r = ap (λ (x : Block). length x.body) (sym block-is) ∙ block_size s r file-standing.fits in
-          let y : List ℕ = take 16 (drop (16 * n) (block_in s r).body) in
-          let ly : length y ≡ 16 = length_part (block_in s r).body (16 * n) 16 (omega (arith, point-inside)) in
-          let t : point_of n (block_in s r) ≡ record { refusal = Accepted; bytes = take 16 (drop i (content (block_in s r))) } =
-          rw (le-leb (16 * n) (file_size (block_in s r)) (omega (arith, size-read))) in
-          record {
-            refusal_is = ap (λ (x : Point). x.refusal) (sym t);
-            bytes-is =
-                g
-                ∙ ap (λ (x : Block). splice (zeroed 16) 0 (take 16 (drop (16 * n) x.body))) block-is
-                ∙ over y ly
-                ∙ ap (λ (x : ℕ). take 16 (drop x (block_in s r).body)) (sym a)
-                ∙ sym q
-                ∙ ap (λ (x : Point). x.bytes) (sym t);
-          }
-        where
-          over : (y : List ℕ) → length y ≡ 16 → splice (zeroed 16) 0 y ≡ y
-          over y e = ap (λ (n : ℕ). y ++ drop (0 + n) (zeroed 16)) e ∙ append-nil y

@@ -1,77 +1,67 @@
--- The lowest slot that passes a test: the loop that looks for it, and what it finds.
+-- The lowest slot that passes a test: how it is found, and what is found.
 use Prim.Native.Nat.{◌+◌, ◌<◌, ◌≤◌, suc, zero, ℕ}
 use mathlib.Core.Bool.{Bool, false, true}
 use mathlib.Core.List.{List}
 use mathlib.Core.Option.{Option, none, some}
 use mathlib.Core.Path.{◌∙◌, ◌≡◌, ap, refl, subst, sym}
-use native.Mathlib.Numerals.{add-one}
 use native.Mathlib.Nat.{add-zero, zero-add}
 use native.Mathlib.Omega.{arith}
 use Rattle.std.specs.Prelude as std
 use Rattle.std.specs.Prelude.{MatchOption, None, Some}
+use Rattle.std.proofs.lemmas.Iterator.{first_from_Range}
+use Rattle.std.specs.declared.ops.Range.{Range}
+use Rattle.std.specs.Bool.{⊤}
+use Rattle.std.specs.Fn.{CalledAt}
+use Rattle.std.specs.Iterator.{YieldsThen}
+use Rattle.std.specs.List.{FoldsTo}
+use Rattle.std.proofs.iter.Yields.{nat_range_steps}
+use denote.Ref.{Bor}
+use denote.Param.Members.{Mut}
 use Rattle.calls.specs.Answers.{index_of}
 use Rattle.alloc.specs.Block.{Block}
 use Rattle.tree.specs.Fields.{Slot, is_dir, slot_at, slots, slots_from, total}
 use Rattle.tree.proofs.Indexed.{slots_dir, slots-other}
-use Rattle.tree.proofs.Rows.{left, left_end, left-start, left_step}
 use Rattle.calls.specs.Walk.{first_slot, onward}
 
--- ---- the loop
+-- ---- how it is found
 
--- counted from slot i on
-abbrev from : ℕ → Option ℕ → Option ℕ
-from i none = none
-from i (some k) = some (i + k)
+-- among n slots from slot j on
+module _ (p : Slot → Bool) (b : Block) where
+  none_from : (j n : ℕ) → ((k : ℕ) → j ≤ k → k < j + n → false ≡ p (slot_at b k)) → first_slot p (slots_from b j n) ≡ none
+  unfolding first_slot slots_from
+  none_from j zero h = refl
+  none_from j (suc n) h = rw (sym (h j (omega arith) (omega arith))) (ap onward (none_from (j + 1) n (λ k a l. h k (omega arith) (omega arith))))
 
-pub record Seeking (p : Slot → Bool) (b : Block) (i : ℕ) : Type 0 where
-  pub so_far : first_slot p (slots b) ≡ from i (first_slot p (left b i))
+  some_from : (j n i : ℕ) → i < n → ((k : ℕ) → j ≤ k → k < j + i → false ≡ p (slot_at b k)) → true ≡ p (slot_at b (j + i)) → first_slot p (slots_from b j n) ≡ some i
+  unfolding first_slot slots_from
+  some_from j zero i l h t = absurd (omega arith)
+  some_from j (suc n) zero l h t = rw (subst (λ (k : ℕ). p (slot_at b k) ≡ true) (add-zero j) (sym t)) refl
+  some_from j (suc n) (suc i) l h t =
+      let m : j + suc i ≡ j + 1 + i = omega arith in
+      rw (sym (h j (omega arith) (omega arith)))
+      (ap onward (some_from (j + 1) n i (omega arith) (λ k a q. h k (omega arith) (omega arith)) (subst (λ (k : ℕ). true ≡ p (slot_at b k)) m t)))
 
-pub seeking_start : (p : Slot → Bool) (b : Block) → is_dir b ≡ true → Seeking p b 0
-seeking_start p b e = record { so_far = ap (first_slot p) (left-start b e) ∙ from_first (first_slot p (left b 0)) }
+-- what `find` gives over the slots' numbers
+pub lowest_in_range : (p : Slot → Bool) (b : Block) → is_dir b ≡ true → {m n : ℕ} → n ≡ total b
+    → {F : Type 0} {g : Mut F (Bor ℕ × Unit {0}) Bool} (u : Range ℕ) {f : F} (o : std.Option ℕ)
+    → (xs : List ℕ) × (j : F) × YieldsThen nat_range_steps (record { start = m; end = n }) xs o u
+    × FoldsTo (λ h x k. CalledAt g h x false k) f xs j × MatchOption o ⊤ (λ x. (h : F) × CalledAt g j x true h)
+    → ((x : ℕ) (k : F) → CalledAt g f x true k → true ≡ p (slot_at b x)) → ((x : ℕ) (k : F) → CalledAt g f x false k → (k ≡ f) × (false ≡ p (slot_at b x)))
+    → m ≡ 0 → index_of o ≡ first_slot p (slots b)
+lowest_in_range p b d {m} {n} e u o ran meets fails z =
+    go o (first_from_Range _ _ _ o (λ i. true ≡ p (slot_at b i)) (λ i. false ≡ p (slot_at b i)) ran meets fails)
+    ∙ sym (ap (first_slot p) (slots_dir b d))
   where
-    from_first : (o : Option ℕ) → o ≡ from 0 o
-    from_first none = refl
-    from_first (some k) = ap some (sym (zero-add k))
+    go : (o : std.Option ℕ) → MatchOption o ((k : ℕ) → m ≤ k → k < n → false ≡ p (slot_at b k))
+        (λ i. (m ≤ i) × (i < n) × (true ≡ p (slot_at b i)) × ((k : ℕ) → m ≤ k → k < i → false ≡ p (slot_at b k))) → index_of o ≡ first_slot p (slots_from b 0 (total b))
+    go None h = sym (none_from p b 0 (total b) (λ k a l. h k (omega (arith, z)) (omega (arith, e))))
+    go (Some i) h =
+        sym
+        (some_from p b 0 (total b) i (omega (arith, h.1, e)) (λ k a l. h.3 k (omega (arith, z)) (omega arith)) (subst (λ (k : ℕ). true ≡ p (slot_at b k)) (sym (zero-add i)) h.2))
 
-module _ {p : Slot → Bool} {b : Block} {i : ℕ} (w : Seeking p b i) where
-  here : (t : Bool) → i < total b → p (slot_at b i) ≡ t → first_slot p (slots b) ≡ from i (elim t [ true ↦ some 0 | false ↦ onward (first_slot p (left b (i + 1))) ])
-  unfolding first_slot
-  here t h e =
-      w.so_far
-      ∙ ap (λ (ss : List Slot). from i (first_slot p ss)) (left_step b i h)
-      ∙ ap (λ (q : Bool). from i (elim q as (λ _. Option ℕ) [ true ↦ some 0 | false ↦ onward (first_slot p (left b (i + 1))) ])) e
-
-  pub seeking_on : i < total b → (t : Bool) → t ≡ p (slot_at b i) → t ≡ false → Seeking p b (i + 1)
-  seeking_on h t e f = record { so_far = here false h (sym e ∙ f) ∙ shifted (first_slot p (left b (i + 1))) }
-    where
-      shifted : (o : Option ℕ) → from i (onward o) ≡ from (i + 1) o
-      shifted none = refl
-      shifted (some k) = let n : i + suc k ≡ i + 1 + k = omega arith in ap some n
-
-  pub seeking_here : i < total b → (t : Bool) → t ≡ p (slot_at b i) → t ≡ true → some i ≡ first_slot p (slots b)
-  seeking_here h t e f = ap some (sym (add-zero i)) ∙ sym (here true h (sym e ∙ f))
-
-  pub seeking_end : total b ≤ i → none ≡ first_slot p (slots b)
-  unfolding first_slot
-  seeking_end h = sym (w.so_far ∙ ap (λ (ss : List Slot). from i (first_slot p ss)) (left_end b i h))
-
--- the first that passes, of those below n, or none
-pub lowest_found : (p : Slot → Bool) (b : Block) → is_dir b ≡ true → {n : ℕ} → n ≡ total b → (o : std.Option ℕ)
-    → MatchOption o ((k : ℕ) → 0 ≤ k → k < n → false ≡ p (slot_at b k))
-    (λ i. (0 ≤ i) × (i < n) × (true ≡ p (slot_at b i)) × ((k : ℕ) → 0 ≤ k → k < i → false ≡ p (slot_at b k)))
-    → index_of o ≡ first_slot p (slots b)
-lowest_found p b d {n} e o m = go o m
-  where
-    upto : (i : ℕ) → i ≤ n → ((k : ℕ) → 0 ≤ k → k < i → false ≡ p (slot_at b k)) → Seeking p b i
-    upto zero l h = seeking_start p b d
-    upto (suc i) l h =
-        let w = upto i (omega arith) (λ k z q. h k z (omega arith)) in
-        subst (Seeking p b) (add-one i) (seeking_on w (omega arith) false (h i (omega arith) (omega arith)) refl)
-
-    go : (o : std.Option ℕ) → MatchOption o ((k : ℕ) → 0 ≤ k → k < n → false ≡ p (slot_at b k))
-        (λ i. (0 ≤ i) × (i < n) × (true ≡ p (slot_at b i)) × ((k : ℕ) → 0 ≤ k → k < i → false ≡ p (slot_at b k))) → index_of o ≡ first_slot p (slots b)
-    go None h = seeking_end (upto n (omega arith) h) (omega arith)
-    go (Some i) h = seeking_here (upto i (omega (arith, h.1)) h.3) (omega (arith, h.1)) true h.2 refl
+-- a number in that range is a slot's
+pub slot_in_range : {n m x : ℕ} → n ≡ m → x < n → (y : ℕ) → y ≡ x → y < m
+slot_in_range e l y f = omega arith
 
 -- ---- what is found
 

@@ -1,23 +1,30 @@
 -- An object of a well-formed image stands at its ref, as the layer below reads it.
-use Prim.Native.Nat.{◌<◌, ℕ}
+use Prim.Native.Nat.{◌*◌, ◌+◌, ◌<◌, ◌≤◌, ℕ}
 use mathlib.Core.Bool.{Bool, ◌||◌, false, true}
 use mathlib.Core.List.{List}
 use mathlib.Core.Logic.{◌⊎◌, inl, inr}
 use mathlib.Core.Path.{◌∙◌, ◌≡◌, ap, refl, subst, sym}
 use native.Mathlib.Omega.{arith}
 use lib.Dec.{eqb}
+use lib.ListN.{get_or, length}
+use mir.Val.{Fits}
+use mir.Syntax.{w8}
 use borrow.Author.Tests.{eqb-true}
 use Rattle.storage.proofs.Booleans.{or_elim}
 use Rattle.storage.proofs.Numbers.{AllBytes}
 use Rattle.alloc.specs.Block.{Block, SFde, SFre, block_of, magic_at}
 use Rattle.alloc.specs.Volume.{objects, volume_of}
 use Rattle.alloc.proofs.Held.{StandsAt, object-stands}
-use Rattle.tree.specs.Answers.{DirectoryAt}
+use Rattle.tree.specs.Answers.{DirectoryAt, FileAt}
 use Rattle.tree.specs.Fields.{Slot, is_dir, is_file, slot_at, taken, total}
 use Rattle.tree.specs.Verdict.{well_formed}
 use Rattle.tree.proofs.Formed.{Filled, dir_there, file-there, formed-root, formed-taken, formed-tiled, name-there}
 use Rattle.calls.specs.Answers.{DirectoryIn, FileIn, ObjectAt}
 use Rattle.calls.specs.Reading.{block_in}
+
+-- the elements of a lent row are bytes
+pub bytes_of : (s : List ℕ) → ((i : ℕ) → Fits w8 (get_or s i 0)) → AllBytes s
+bytes_of s f i = (f i).fits
 
 -- a file or a directory
 either_kind : (b : Block) → (is_file b ≡ true) ⊎ (is_dir b ≡ true) → (is_file b || is_dir b) ≡ true
@@ -39,49 +46,28 @@ module _ {s : List ℕ} (h : AllBytes s) where
       let w = formed-stands r d.formed (dir_there (block_in s r) d.kind) in
       (record { standing = w.standing; magic = ap (λ (b : Block). b.magic) w.block ∙ eqb-true (block_in s r).magic SFde d.kind }, w.block)
 
-  pub file-stands : {r : ℕ} → FileIn s r → StandsAt s r (block_in s r) × (magic_at s r ≡ SFre)
+  pub file-stands : {r : ℕ} → FileIn s r → FileAt s r × (block_of s r ≡ block_in s r)
   unfolding block_of
   file-stands {r} f =
       let w = formed-stands r f.formed (file-there (block_in s r) f.kind) in
-      (w, ap (λ (b : Block). b.magic) w.block ∙ eqb-true (block_in s r).magic SFre f.kind)
+      (record { standing = w.standing; magic = ap (λ (b : Block). b.magic) w.block ∙ eqb-true (block_in s r).magic SFre f.kind }, w.block)
 
   pub object-at : {r : ℕ} → ObjectAt s r → StandsAt s r (block_in s r)
   object-at {r} o = formed-stands r o.formed (or_elim (is_file (block_in s r)) (is_dir (block_in s r)) o.kind (file-there (block_in s r)) (dir_there (block_in s r)))
 
+  pub header-inside : {r : ℕ} → ObjectAt s r → 16 * r + 16 ≤ length s
+  header-inside o = omega (arith, (object-at o).standing.fits)
+
   -- by what code asks of the magic
-  module _ {r : ℕ} (o : ObjectAt s r) {t : Bool} where
-    is-as : (k : ℕ) → t ≡ eqb (magic_at s r) k → eqb (block_in s r).magic k ≡ t
-    unfolding block_of
-    is-as k q = ap (λ (b : Block). eqb b.magic k) (sym (object-at o).block) ∙ sym q
-
-    pub object-directory : t ≡ eqb (magic_at s r) SFde → t ≡ true → DirectoryIn s r
-    object-directory q e = record { formed = o.formed; kind = is-as SFde q ∙ e }
-
-    pub object-file : t ≡ eqb (magic_at s r) SFre → t ≡ true → FileIn s r
-    object-file q e = record { formed = o.formed; kind = is-as SFre q ∙ e }
-
-    pub no_directory : t ≡ eqb (magic_at s r) SFde → t ≡ false → is_dir (block_in s r) ≡ false
-    no_directory q e = is-as SFde q ∙ e
-
-    pub no_file : t ≡ eqb (magic_at s r) SFre → t ≡ false → is_file (block_in s r) ≡ false
-    no_file q e = is-as SFre q ∙ e
-
-    -- what is no directory is a file
-    pub other-file : t ≡ eqb (magic_at s r) SFde → t ≡ false → FileIn s r
-    other-file q n = record { formed = o.formed; kind = or_first (is_file (block_in s r)) o.kind }
-      where
-        or_first : (t : Bool) → (t || is_dir (block_in s r)) ≡ true → t ≡ true
-        or_first true e = refl
-        or_first false e = let z : ◌≡◌ {A = Bool} false true = sym (no_directory q n) ∙ e in let y : ◌≡◌ {A = ℕ} 0 1 = cc in absurd (omega arith)
+  pub magic-told : {r : ℕ} → ObjectAt s r → {t : Bool} (k : ℕ) → t ≡ eqb (magic_at s r) k → eqb (block_in s r).magic k ≡ t
+  unfolding block_of
+  magic-told o k q = ap (λ (b : Block). eqb b.magic k) (sym (object-at o).block) ∙ sym q
 
   -- the root
   pub root-object : well_formed s ≡ true → ObjectAt s (volume_of s).root
   root-object e = record { formed = e; kind = either_kind (block_in s (volume_of s).root) (inr (formed-root s h e)) }
 
-  -- the slots of a directory, as they are counted and read
-  pub slots-counted : {r : ℕ} → DirectoryIn s r → {n : ℕ} → n ≡ total (block_of s r) → n ≡ total (block_in s r)
-  slots-counted d e = e ∙ ap total (directory-stands d).1
-
+  -- the slots of a directory, as they are read
   module _ {r : ℕ} (d : DirectoryIn s r) (i : ℕ) where
     pub slot_read : {x : Slot} → x ≡ slot_at (block_of s r) i → x ≡ slot_at (block_in s r) i
     slot_read e = e ∙ ap (λ (b : Block). slot_at b i) (directory-stands d).1

@@ -16,6 +16,7 @@ use Rattle.path.specs.Path.{all_but_last, components, directory_of, valid_path}
 use Rattle.path.proofs.Paths.{directory-components}
 use Rattle.alloc.specs.Block.{Block, block_of}
 use Rattle.alloc.specs.Sound.{Standing}
+use Rattle.alloc.proofs.Held.{StandsAt}
 use Rattle.alloc.specs.Volume.{Objects, block_at, objects, volume_of}
 use Rattle.tree.specs.Fields.{Slot, is_dir, is_file, slot_at, taken, total}
 use Rattle.tree.specs.Verdict.{verdict, well_formed}
@@ -27,33 +28,32 @@ use Rattle.calls.specs.Reading.{block_in}
 use Rattle.calls.specs.Refusal.{Accepted, For, Refusal, accepted, broken, check, number_of}
 use Rattle.calls.specs.Walk.{Start, Walk, above_last, as_directory, as_file, at, blocked, child, last_name, missing, opening}
 use Rattle.calls.specs.Walk.{or_refused, reached, refused, slot_named, start, start_above, step, walk, walk_from, walked}
-use Rattle.calls.proofs.Checking.{check-refused, never_accepted}
+use Rattle.calls.proofs.Checking.{check-refused, checked_formed, never_accepted}
 use Rattle.calls.proofs.Lowest.{found-slot}
-use Rattle.calls.proofs.Stands.{root-object, slot-name-stands, slot-object, slot_read}
+use Rattle.calls.proofs.Stands.{root-object, slot-name-stands, slot-object}
 
 -- ---- one slot
 
-module _ {s : List ℕ} (h : AllBytes s) {r : ℕ} (d : DirectoryIn s r) {i : ℕ} (l : i < total (block_in s r)) {x : Slot} (e : x ≡ slot_at (block_of s r) i) where
-  slot_is : x ≡ slot_at (block_in s r) i
-  slot_is = slot_read h d i e
+module _ {s : List ℕ} (h : AllBytes s) {r : ℕ} (d : DirectoryIn s r) {i : ℕ} (l : i < total (block_in s r)) {x : Slot} (e : x ≡ slot_at (block_in s r) i) where
+  pub named-empty : (w : List ℕ) → taken x ≡ false → false ≡ named s r i w
+  named-empty w n = sym (ap (λ (y : Bool). y && same (block_in s (slot_at (block_in s r) i).0).body w) (ap taken (sym e) ∙ n))
 
-  module _ {t : Bool} (q : t ≡ taken x) where
-    taken_as : taken (slot_at (block_in s r) i) ≡ t
-    taken_as = ap taken (sym slot_is) ∙ sym q
+  module _ (n : taken x ≡ true) where
+    taken_there : taken (slot_at (block_in s r) i) ≡ true
+    taken_there = ap taken (sym e) ∙ n
 
-    pub named-empty : (w : List ℕ) → t ≡ false → false ≡ named s r i w
-    named-empty w n = sym (ap (λ (y : Bool). y && same (block_in s (slot_at (block_in s r) i).0).body w) (taken_as ∙ n))
+    name-stands : StandsAt s x.0 (block_in s x.0)
+    name-stands = subst (λ (y : Slot). StandsAt s y.0 (block_in s y.0)) (sym e) (slot-name-stands h d i l taken_there)
 
-    module _ (n : t ≡ true) where
-      pub name-standing : Standing s x.0
-      name-standing = subst (λ (y : Slot). Standing s y.0) (sym slot_is) (slot-name-stands h d i l (taken_as ∙ n)).standing
+    pub name-standing : Standing s x.0
+    name-standing = name-stands.standing
 
-      pub named-taken : (w : List ℕ) (u : Bool) → u ≡ same (block_of s x.0).body w → u ≡ named s r i w
-      named-taken w u f =
-          f
-          ∙ ap (λ (y : Slot). same (block_of s y.0).body w) slot_is
-          ∙ ap (λ (b : Block). same b.body w) (slot-name-stands h d i l (taken_as ∙ n)).block
-          ∙ sym (ap (λ (y : Bool). y && same (block_in s (slot_at (block_in s r) i).0).body w) (taken_as ∙ n))
+    pub named-taken : (w : List ℕ) (u : Bool) → u ≡ same (block_of s x.0).body w → u ≡ named s r i w
+    named-taken w u f =
+        f
+        ∙ ap (λ (b : Block). same b.body w) name-stands.block
+        ∙ ap (λ (y : Slot). same (block_in s y.0).body w) e
+        ∙ sym (ap (λ (y : Bool). y && same (block_in s (slot_at (block_in s r) i).0).body w) taken_there)
 
 -- what is no directory blocks the way
 pub step-blocked : (os : Objects) (r : ℕ) (w : List ℕ) → is_dir (block_at os r) ≡ false → blocked ≡ step os r w
@@ -137,7 +137,10 @@ module _ (s path : List ℕ) (allowed : Bool) where
   unfolding opening
   opening-broken e = sym (rw (e, opening))
 
-  module _ (e : well_formed s ≡ true) where
+  module _ (a : Accepted ≡ check s) where
+    e : well_formed s ≡ true
+    e = checked_formed s a
+
     pub opening-path : valid_path path ≡ false → For BadPath ≡ opening s path allowed
     unfolding opening
     opening-path f = sym (rw (e, f, opening))
@@ -207,6 +210,10 @@ walked-object {s} h e ws r f = along ws (volume_of s).root (root-object h e) f
         by_step blocked d g k = let z : ◌≡◌ {A = ℕ} 0 1 = cc in absurd (omega arith)
         by_step (at p) d g k = k p (step-object h q e w p (sym d)) g
 
+-- a walk in a row that is the same
+pub walk-same : {s t : List ℕ} → t ≡ s → {x : Start} (ws : List (List ℕ)) → x ≡ walk_from t ws → x ≡ walk_from s ws
+walk-same q ws e = e ∙ ap (λ (u : List ℕ). walk_from u ws) q
+
 -- where what is looked for first is none: the image is well formed, and a ref that a walk reaches is an object
 module _ (s path : List ℕ) (allowed : Bool) (o : Accepted ≡ opening s path allowed) where
   pub opened_formed : well_formed s ≡ true
@@ -214,9 +221,6 @@ module _ (s path : List ℕ) (allowed : Bool) (o : Accepted ≡ opening s path a
 
   pub opened_valid : valid_path path ≡ true
   opened_valid = (opened s path allowed (ap number_of (sym o))).1
-
-  pub opened_object : AllBytes s → (ws : List (List ℕ)) (q : ℕ) → reached q ≡ walk_from s ws → ObjectAt s q
-  opened_object h = walked-object h opened_formed
 
 -- by what is looked for first: a refusal, or none
 module _ (s path : List ℕ) (allowed : Bool) (x : Start) where
@@ -237,9 +241,6 @@ start-object {s} h path allowed r f =
 module _ (s : List ℕ) where
   pub file-directory : {x : Start} (r : ℕ) → reached r ≡ x → is_file (block_in s r) ≡ false → refused (For IsDirectory) ≡ as_file s x
   file-directory r e f = sym (ap (λ (t : Bool). cond t (reached r) (refused (For IsDirectory))) f) ∙ ap (as_file s) e
-
-  pub file-reached : {x : Start} (r : ℕ) → reached r ≡ x → is_file (block_in s r) ≡ true → reached r ≡ as_file s x
-  file-reached r e f = sym (ap (λ (t : Bool). cond t (reached r) (refused (For IsDirectory))) f) ∙ ap (as_file s) e
 
   -- what is reached was reached as a file
   pub reached-file : (x : Start) (r : ℕ) → reached r ≡ as_file s x → (reached r ≡ x) × (is_file (block_in s r) ≡ true)
@@ -285,25 +286,25 @@ module _ (s path : List ℕ) (allowed : Bool) (top : Reason) where
         go (w ∷ ws) e = absurd (omega arith)
 
     -- not the root: what the walk came to
-    module _ {m : ℕ} (c : m ≡ length (components path)) (y : m ≡ 0 → ⊥) (p : List ℕ) (q : p ≡ directory_of path) where
-      came : (x : Start) → x ≡ walk_from s (components p) → as_directory s x ≡ start_above s path allowed top
+    module _ {m : ℕ} (c : m ≡ length (components path)) (y : m ≡ 0 → ⊥) (p : List ℕ) (q : p ≡ directory_of path) {t : List ℕ} (k : t ≡ s) where
+      came : (x : Start) → x ≡ walk_from t (components p) → as_directory s x ≡ start_above s path allowed top
       came x e =
           passed (go (components path) (λ u. y (c ∙ u))
-          (e ∙ ap (λ (u : List ℕ). walk_from s (components u)) q ∙ ap (walk_from s) (directory-components path (opened_valid s path allowed o))))
+          (walk-same k _ e ∙ ap (λ (u : List ℕ). walk_from s (components u)) q ∙ ap (walk_from s) (directory-components path (opened_valid s path allowed o))))
         where
           go : (ws : List (List ℕ)) → (length ws ≡ 0 → ⊥) → x ≡ walk_from s (all_but_last ws) → as_directory s x ≡ above_last s top ws
           go [] u f = absurd (u refl)
           go (w ∷ ws) u f = ap (as_directory s) f
 
-      pub above-refused : (n : Refusal) → refused n ≡ walk_from s (components p) → refused n ≡ start_above s path allowed top
+      pub above-refused : (n : Refusal) → refused n ≡ walk_from t (components p) → refused n ≡ start_above s path allowed top
       above-refused n e = came (refused n) e
 
-      module _ (d : ℕ) (e : reached d ≡ walk_from s (components p)) where
+      module _ (d : ℕ) (e : reached d ≡ walk_from t (components p)) where
         pub above-file : is_dir (block_in s d) ≡ false → refused (For NotDirectory) ≡ start_above s path allowed top
-        above-file k = sym (ap (λ (t : Bool). cond t (reached d) (refused (For NotDirectory))) k) ∙ came (reached d) e
+        above-file f = sym (ap (λ (b : Bool). cond b (reached d) (refused (For NotDirectory))) f) ∙ came (reached d) e
 
         pub above-directory : is_dir (block_in s d) ≡ true → reached d ≡ start_above s path allowed top
-        above-directory k = sym (ap (λ (t : Bool). cond t (reached d) (refused (For NotDirectory))) k) ∙ came (reached d) e
+        above-directory f = sym (ap (λ (b : Bool). cond b (reached d) (refused (For NotDirectory))) f) ∙ came (reached d) e
 
 -- what is reached above the last component is a directory, and there is a last component
 pub record Above (s path : List ℕ) (d : ℕ) : Type 0 where

@@ -4,6 +4,7 @@ use Rattle.std.specs.Prelude as std
 use Rattle.std.proofs.Math.Option.{Option, none, some}
 use Rattle.storage.specs.Bytes.{same, zeroed}
 use Rattle.storage.specs.declared.Ref.{Ref}
+use Rattle.alloc.specs.Block.{Block}
 use Rattle.tree.specs.Fields.{is_dir, is_file, slot_at, taken, content}
 use Rattle.tree.specs.Answers.{rule_number}
 use Rattle.tree.specs.Verdict.{well_formed}
@@ -75,6 +76,12 @@ pub record DirectoryIn (s : List ℕ) (r : ℕ) : Type 0 where
 pub record FileIn (s : List ℕ) (r : ℕ) : Type 0 where
   pub formed : well_formed s ≡ true
   pub kind : is_file (block_in s r) ≡ true
+
+-- the object at ref r passes this test of kinds, and t and q are its image and its ref
+pub record KnownAs (test : Block → Bool) (s : List ℕ) (r : ℕ) (t : List ℕ) (q : ℕ) : Type 0 where
+  pub kind : test (block_in s r) ≡ true
+  pub image : t ≡ s
+  pub at : q ≡ r
 
 -- slot i of the directory at ref r is taken, with this name
 abbrev pub named : List ℕ → ℕ → ℕ → List ℕ → Bool

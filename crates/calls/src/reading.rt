@@ -8,9 +8,7 @@ ghost use Rattle.calls.specs.Answers.{kind_is, found_of, outcome_of, count_of, p
 use crate::objects::{File, Object};
 use crate::refusal::{Reason, Refusal};
 use crate::walk;
-use alloc::{access, block};
-use storage::{Pos, Ref};
-use tree::fields;
+use storage::Ref;
 
 // A file with its size and room, or a directory with its taken and total slots.
 #[derive(Clone, Copy)]
@@ -31,15 +29,18 @@ pub struct Found {
 pub fn kind_at(object: Object) -> Kind
     ensures { kind_is result ≡ kind_of (block_in object.entry.image.now object.entry.at.0) }
 {
-    let Object { image, at } = object;
-    if block::is(image, at, block::Kind::Directory) {
-        let taken = fields::taken_count(image, at);
-        let total = fields::slot_count(image, at) as u64;
-        return Kind::Directory { taken, total };
+    if let Some(directory) = object.directory() {
+        return Kind::Directory {
+            taken: directory.taken_count(),
+            total: directory.slot_count() as u64,
+        };
     }
-    let size = access::read_u64(image, at, Pos(0));
-    let room = (block::size_at(image, at) - 16) as u64;
-    Kind::File { size, room }
+    let Object { image, at } = object;
+    let file = File { image, at };
+    Kind::File {
+        size: file.size(),
+        room: file.room(),
+    }
 }
 
 // What the path names.
@@ -64,13 +65,12 @@ pub fn find(image: &[u8], path: &[u8]) -> Found
 fn copy_from(file: File, position: u64, buffer: &mut [u8]) -> u64
     ensures { Copies file.entry.image.now file.entry.at.0 position buffer.old result buffer.new }
 {
-    let File { image, at } = file;
-    let size = access::read_u64(image, at, Pos(0));
+    let size = file.size();
     if size <= position {
         return 0;
     }
     let n = (buffer.len() as u64).min(size - position) as usize;
-    access::copy_out(image, at, Pos(16 + position as usize), buffer, n);
+    file.copy_out(position as usize, &mut buffer[..n]);
     n as u64
 }
 
@@ -87,13 +87,11 @@ fn point_at(file: File, n: u64) -> Result<[u8; 16], Refusal>
     requires { (0 < n) × (n < 4097) }
     ensures { Points (spec.point_of n (block_in file.entry.image.now file.entry.at.0)) (outcome_of result) (point_bytes_of result) }
 {
-    let File { image, at } = file;
-    let size = access::read_u64(image, at, Pos(0));
-    if size < 16 * n {
+    if file.size() < 16 * n {
         return Err(Refusal::For(Reason::PastEnd));
     }
     let mut bytes = [0u8; 16];
-    access::copy_out(image, at, Pos(16 * (n as usize)), &mut bytes, 16);
+    file.copy_out(16 * (n as usize - 1), &mut bytes);
     Ok(bytes)
 }
 

@@ -28,7 +28,7 @@ pub enum Reason {
 }
 
 // The image breaks a rule, or the call is refused for another reason.
-#[derive(Clone, Copy)]
+#[derive(Clone, Copy, PartialEq, Eq)]
 pub enum Refusal {
     Broken(Breach),
     For(Reason),

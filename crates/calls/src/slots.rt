@@ -1,43 +1,37 @@
 // Slots of a directory, looked for from the first on.
 
-ghost use Rattle.std.specs.Prelude.{◌≡◌, ◌<◌, not};
-ghost use Rattle.tree.specs.Fields.{total, slot_at, taken};
+ghost use Rattle.std.specs.Prelude.{◌≡◌, ◌<◌};
+ghost use Rattle.tree.specs.Fields.{total};
 ghost use Rattle.calls.specs.Walk.{slot_named, empty_slot};
 ghost use Rattle.calls.specs.Reading.{block_in};
 ghost use Rattle.alloc.specs.Volume.{volume_of, objects};
 ghost use Rattle.calls.specs.Answers.{named, index_of};
 
 use crate::objects::Directory;
-use alloc::access;
-use tree::fields;
+use alloc::access::Block;
 
 // Whether slot `i` is taken, with this name.
 fn has_name(directory: Directory, i: usize, name: &[u8]) -> bool
     requires { i < total (block_in directory.image.now directory.at.0) }
     ensures { result ≡ named directory.entry.image.now directory.entry.at.0 i name.now }
 {
-    let Directory { image, at } = directory;
-    let slot = fields::slot_at(image, at, i);
+    let slot = directory.slot_at(i);
     if !slot.is_taken() {
         return false;
     }
-    access::equals(image, slot.name, name)
-}
-
-// Whether slot `i` is empty.
-fn is_empty(directory: Directory, i: usize) -> bool
-    requires { i < total (block_in directory.image.now directory.at.0) }
-    ensures { result ≡ not (taken (slot_at (block_in directory.entry.image.now directory.entry.at.0) i)) }
-{
-    let Directory { image, at } = directory;
-    !fields::slot_at(image, at, i).is_taken()
+    let Directory { image, .. } = directory;
+    let block = Block {
+        image,
+        at: slot.name,
+    };
+    block.equals(name)
 }
 
 // The slot with this name.
 pub fn with_name(directory: Directory, name: &[u8]) -> Option<usize>
     ensures { index_of result ≡ slot_named (objects (volume_of directory.entry.image.now)) (block_in directory.entry.image.now directory.entry.at.0) name.now }
 {
-    let count = fields::slot_count(directory.image, directory.at);
+    let count = directory.slot_count();
     (0..count).find(|&i| has_name(directory, i, name))
 }
 
@@ -45,6 +39,6 @@ pub fn with_name(directory: Directory, name: &[u8]) -> Option<usize>
 pub fn empty(directory: Directory) -> Option<usize>
     ensures { index_of result ≡ empty_slot (block_in directory.entry.image.now directory.entry.at.0) }
 {
-    let count = fields::slot_count(directory.image, directory.at);
-    (0..count).find(|&i| is_empty(directory, i))
+    let count = directory.slot_count();
+    (0..count).find(|&i| !directory.slot_at(i).is_taken())
 }

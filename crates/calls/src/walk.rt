@@ -1,19 +1,17 @@
 // The walk along a path, and how every call on a path begins.
 
-ghost use Rattle.std.specs.Prelude.{◌≡◌, true};
+ghost use Rattle.std.specs.Prelude.{◌≡◌, IfOk};
 ghost use Rattle.alloc.specs.Volume.{volume_of, objects};
 ghost use Rattle.path.specs.Path.{components};
-ghost use Rattle.tree.specs.Verdict.{well_formed};
 ghost use Rattle.calls.specs.Walk as spec;
 ghost use Rattle.calls.specs.Walk.{step, walk_from, walked, as_file};
 ghost use Rattle.calls.specs.Answers.{step_of, start_of, outcome_of};
 
+use crate::check::{self, WellFormed};
 use crate::objects::{Directory, Object};
 use crate::refusal::{Reason, Refusal};
 use crate::slots;
-use alloc::block;
 use storage::Ref;
-use tree::fields;
 
 // The child with this name.
 fn child(directory: Directory, name: &[u8]) -> Result<Ref, Reason>
@@ -22,26 +20,25 @@ fn child(directory: Directory, name: &[u8]) -> Result<Ref, Reason>
     let Some(i) = slots::with_name(directory, name) else {
         return Err(Reason::NotFound);
     };
-    Ok(fields::slot_at(directory.image, directory.at, i).object)
+    Ok(directory.slot_at(i).object)
 }
 
 // One step, to the object with this name.
 fn take_step(here: Object, name: &[u8]) -> Result<Ref, Reason>
     ensures { step_of result ≡ walked (step (objects (volume_of here.entry.image.now)) here.entry.at.0 name.now) }
 {
-    let Object { image, at } = here;
-    if !block::is(image, at, block::Kind::Directory) {
+    let Some(directory) = here.directory() else {
         return Err(Reason::NotDirectory);
-    }
-    child(Directory { image, at }, name)
+    };
+    child(directory, name)
 }
 
 // From the root along the components of the path.
-fn walk_from(image: &[u8], path: &[u8]) -> Result<Ref, Refusal>
-    requires { well_formed image.now ≡ true }
-    ensures { start_of result ≡ walk_from image.now (components path.now) }
+fn walk_from(formed: WellFormed, path: &[u8]) -> Result<Ref, Refusal>
+    ensures { start_of result ≡ walk_from formed.entry.image.now (components path.now) }
 {
-    let mut at = alloc::chain::root(image);
+    let WellFormed { image } = formed;
+    let mut at = formed.tiled().root();
     for i in 0..path::count(path) {
         at = take_step(Object { image, at }, path::component(path, i))?;
     }
@@ -49,51 +46,53 @@ fn walk_from(image: &[u8], path: &[u8]) -> Result<Ref, Refusal>
 }
 
 // What is looked for first: the image's own refusal, then the path's, then that of numbers that are not allowed.
-fn opening(image: &[u8], path: &[u8], allowed: bool) -> Result<(), Refusal>
-    ensures { outcome_of result ≡ spec.opening image.now path.now allowed }
+fn opening<'a>(image: &'a [u8], path: &[u8], allowed: bool) -> Result<WellFormed<'a>, Refusal>
+    ensures outcome { outcome_of result ≡ spec.opening image.now path.now allowed }
+    ensures same_image { IfOk result (λ f. f.image.now ≡ image.now) }
 {
-    crate::check::check(image)?;
+    let formed = check::well_formed(image)?;
     if !path::valid_path(path) {
         return Err(Refusal::For(Reason::BadPath));
     }
     if !allowed {
         return Err(Refusal::For(Reason::OutOfBounds));
     }
-    Ok(())
+    Ok(formed)
 }
 
 // How a call on what the path names begins: the refusals of `opening`, then the walk's.
 pub fn begin(image: &[u8], path: &[u8], allowed: bool) -> Result<Ref, Refusal>
     ensures { start_of result ≡ spec.start image.now path.now allowed }
 {
-    opening(image, path, allowed)?;
-    walk_from(image, path)
+    walk_from(opening(image, path, allowed)?, path)
 }
 
 // How a call on a file begins: the refusals of `begin`, then that of a directory.
 pub fn file(image: &[u8], path: &[u8], allowed: bool) -> Result<Ref, Refusal>
     ensures { start_of result ≡ as_file image.now (spec.start image.now path.now allowed) }
 {
-    let r = begin(image, path, allowed)?;
-    if !block::is(image, r, block::Kind::File) {
+    let at = begin(image, path, allowed)?;
+    let object = Object { image, at };
+    let Some(_) = object.file() else {
         return Err(Refusal::For(Reason::IsDirectory));
-    }
-    Ok(r)
+    };
+    Ok(at)
 }
 
 // How a call on a slot of the directory that holds the last component begins: the refusals of `opening`, `top` for the root, then the walk's.
 pub fn begin_above(image: &[u8], path: &[u8], allowed: bool, top: Reason) -> Result<Ref, Refusal>
     ensures { start_of result ≡ spec.start_above image.now path.now allowed top }
 {
-    opening(image, path, allowed)?;
+    let formed = opening(image, path, allowed)?;
     if path::count(path) == 0 {
         return Err(Refusal::For(top));
     }
-    let d = walk_from(image, path::directory(path))?;
-    if !block::is(image, d, block::Kind::Directory) {
+    let at = walk_from(formed, path::directory(path))?;
+    let object = Object { image, at };
+    let Some(_) = object.directory() else {
         return Err(Refusal::For(Reason::NotDirectory));
-    }
-    Ok(d)
+    };
+    Ok(at)
 }
 
 // The last component of the path.

@@ -30,7 +30,7 @@ use Rattle.alloc.proofs.Soundness.{image-sound, image-volume}
 use Rattle.alloc.proofs.Stages.{PlacedIn, stage_placed, stage_start, stage_unplaced}
 use Rattle.calls.specs.declared.refusal.Reason.TheVariants.{BadLength, NoRoom, OutOfBounds}
 use Rattle.calls.specs.Refusal.{Accepted, For}
-use Rattle.changes.specs.Answers.{Changes}
+use Rattle.changes.specs.Answers.{Changes, RootFits}
 use Rattle.changes.specs.Changing.{format, formatted, new_directory, with_root}
 use Rattle.changes.proofs.Storing.{Open, answered, open_image, open_placed, store, store_at}
 
@@ -41,7 +41,7 @@ directory-units : (p k : ℕ) → units (new_directory p k) ≡ k + 1
 directory-units p k = omega (arith, length-append (be64 p) (zeroed (16 * k)), length-be64 p, length-zeroed (16 * k))
 
 -- and one of 1 to 1,024 slots is an object
-pub directory-object : (k : ℕ) → 0 < k → k < 1025 → Object SFde (8 + 16 * k)
+pub directory-object : (k : ℕ) → 0 < k → k ≤ 1024 → Object SFde (8 + 16 * k)
 unfolding other_kind
 directory-object k l h = record {
   kind = rw (eq-eqb ((8 + 16 * k) % 16) 8 (omega arith), le-leb 24 (8 + 16 * k) (omega arith), le-leb (8 + 16 * k) 16392 (omega arith));
@@ -57,10 +57,9 @@ directory-filled p k =
 
 -- ---- what is stored into a new image
 
-module _ {n k : ℕ} (a : length_allowed n ≡ true) (low : 0 < k) (high : k < 1025) (fits : 48 + 16 * k ≤ n) {s : List ℕ} (e : s ≡ image (empty_volume n 2))
-    {z : ℕ} (d : z ≡ 8 + 16 * k) where
+module _ {n k : ℕ} (f : RootFits n k) {s : List ℕ} (e : s ≡ image (empty_volume n 2)) {z : ℕ} (d : z ≡ 8 + 16 * k) where
   sound_so : SoundVolume n (empty_volume n 2)
-  sound_so = empty-sound a (omega arith)
+  sound_so = empty-sound f.allowed (omega arith)
 
   volume_so : volume_of s ≡ empty_volume n 2
   volume_so = ap volume_of e ∙ image-volume sound_so
@@ -79,13 +78,13 @@ module _ {n k : ℕ} (a : length_allowed n ≡ true) (low : 0 < k) (high : k < 1
   pub root-fits : {o : Option ℕ} {t : List ℕ} → Places tightest s SFde z o t → o ≡ none → ⊥
   root-fits p q =
       let x = (stage_unplaced first (placed_so p q)).0 in
-      let y = empty_placed chooses_tightest (blank SFde (8 + 16 * k)) n 2 (omega (arith, length-zeroed (8 + 16 * k))) (length-parts n a).0 in
+      let y = empty_placed chooses_tightest (blank SFde (8 + 16 * k)) n 2 (omega (arith, length-zeroed (8 + 16 * k))) (length-parts n f.allowed).0 in
       let c : ◌≡◌ {A = ℕ} 0 1 = cc in
       omega arith
 
   module _ {o : Option ℕ} {t : List ℕ} (p : Places tightest s SFde z o t) {r : ℕ} (q : o ≡ some r) where
     root_in : PlacedIn tightest s (empty_volume n 2).extents (blank SFde (8 + 16 * k)) r t
-    root_in = stage_placed first chooses_tightest (directory-object k low high) (placed_so p q)
+    root_in = stage_placed first chooses_tightest (directory-object k f.least f.most) (placed_so p q)
 
     root_open : Open s r (8 + 16 * k) root_in.placed.extents t
     root_open = open_placed root_in (omega arith) (length-zeroed (8 + 16 * k))
@@ -101,7 +100,7 @@ module _ {n k : ℕ} (a : length_allowed n ≡ true) (low : 0 < k) (high : k < 1
         let x =
         place_spliced chooses_tightest (blank SFde (8 + 16 * k)) (empty_volume n 2).extents root_in.placed 0 (be64 r) root_in.places
         (omega (arith, length-be64 r, length-zeroed (8 + 16 * k))) in
-        let y = empty_placed chooses_tightest (new_directory r k) n 2 (omega (arith, directory-units r k)) (length-parts n a).0 in
+        let y = empty_placed chooses_tightest (new_directory r k) n 2 (omega (arith, directory-units r k)) (length-parts n f.allowed).0 in
         let z = ap (λ (b : Block). place tightest b 2 (empty_volume n 2).extents) (directory-filled r k) in
         cc
 

@@ -74,7 +74,7 @@ file-bounds n e = leb-true n 65536 (and_true (leb 0 n) (leb n 65536) e).1
 
 pub new_object : (new : New) → allowed new ≡ true → Object (magic_for new) (size_for new)
 unfolding other_kind
-new_object (directory k) e = let b = directory-bounds k e in directory-object k (omega arith) (omega arith)
+new_object (directory k) e = let b = directory-bounds k e in directory-object k b.0 b.1
 new_object (file n) e =
     let b = file-bounds n e in
     record { kind = rw (le-leb 16 (16 + n) (omega arith), le-leb (16 + n) 65552 (omega arith)); used = λ e. omega arith }
@@ -92,7 +92,16 @@ magic-there (file n) = omega arith
 pub slot-length : (n o : ℕ) → length (be64 n ++ be64 o) ≡ 16
 slot-length n o = omega (arith, length-append (be64 n) (be64 o), length-be64 n, length-be64 o)
 
-module _ {s : List ℕ} (h : AllBytes s) {d i : ℕ} {w : List ℕ} {new : New} (v : Vacant s d i w new) where
+pub vacant-sound : {s : List ℕ} → AllBytes s → {d i : ℕ} {w : List ℕ} → Vacant s d i w → Sound s
+vacant-sound {s} h v = formed-sound s h v.directory.formed
+
+-- a pair placed, by what is read of it
+pair_told : {s t : List ℕ} {k m n m' n' : ℕ} {o o' : Option (ℕ × ℕ)} → m ≡ m' → n ≡ n' → o ≡ o' → PlacesPair tightest s k m n o t
+    → PlacesPair tightest s k m' n' o' t
+pair_told {s} {t} {k} {m} {n} {m'} {n'} {o} {o'} e f g p =
+    subst (λ (x : ℕ). PlacesPair tightest s k x n' o' t) e (subst (λ (x : ℕ). PlacesPair tightest s k m x o' t) f (subst (λ (x : Option (ℕ × ℕ)). PlacesPair tightest s k m n x t) g p))
+
+module _ {s : List ℕ} (h : AllBytes s) {d i : ℕ} {w : List ℕ} (v : Vacant s d i w) (new : New) where
   abbrev es : List Extent
   es = (volume_of s).extents
 
@@ -108,9 +117,6 @@ module _ {s : List ℕ} (h : AllBytes s) {d i : ℕ} {w : List ℕ} {new : New} 
   object-fits : 0 + length (parent_field new d) ≤ length object.body
   object-fits = omega (arith, parent-fits new d, length-zeroed (size_for new))
 
-  pub vacant-sound : Sound s
-  vacant-sound = formed-sound s h v.directory.formed
-
   fill_so : (o : Option PlacedPair) → place_pair tightest (new_name w) (new_block new d) es ≡ o
       → fill_slot s new w d i ≡ elim o [
         | none ↦ unmade (For NoRoom) s
@@ -120,18 +126,20 @@ module _ {s : List ℕ} (h : AllBytes s) {d i : ℕ} {w : List ℕ} {new : New} 
   fill_so o e = rw (e, fill_slot)
 
   -- no room
-  pub fill_none : {t : List ℕ} → PlacesPair tightest s (length w) (magic_for new) (size_for new) none t → Makes (fill_slot s new w d i) (For NoRoom) 0 t
-  fill_none {t} p =
-      let q = stage_unpaired (stage_start vacant-sound) p in
+  pub fill_none : {m z : ℕ} → m ≡ magic_for new → z ≡ size_for new → {q : Option (ℕ × ℕ)} → q ≡ none → {t : List ℕ}
+      → PlacesPair tightest s (length w) m z q t → Makes (fill_slot s new w d i) (For NoRoom) 0 t
+  fill_none em ez eq {t} p =
+      let q = stage_unpaired (stage_start (vacant-sound h v)) (pair_told em ez eq p) in
       let e : place_pair tightest (new_name w) (new_block new d) es ≡ none =
       ap (λ (b : Block). place_pair tightest b (new_block new d) es) (sym (filled-name w))
       ∙ ap (λ (b : Block). place_pair tightest (spliced name 0 w) b es) (sym (filled-object new d))
       ∙ pair_unfilled chooses_tightest name object es 0 w 0 (parent_field new d) name-fits object-fits (omega arith) (magic-there new) q.0 in
       subst (λ (m : Made). Makes m (For NoRoom) 0 t) (sym (fill_so none e)) (record { refusal_is = refl; at-is = refl; image-is = q.1 })
 
-  module _ {n o : ℕ} {t : List ℕ} (p : PlacesPair tightest s (length w) (magic_for new) (size_for new) (some (n, o)) t) where
+  module _ (a : allowed new ≡ true) {m z : ℕ} (em : m ≡ magic_for new) (ez : z ≡ size_for new) {n o : ℕ} {q : Option (ℕ × ℕ)} (eq : q ≡ some (n, o)) {t : List ℕ}
+      (p : PlacesPair tightest s (length w) m z q t) where
     pair : PairIn tightest s es name object n o t
-    pair = stage_pair (stage_start vacant-sound) chooses_tightest (name-object v.name) (new_object new v.bounds) p
+    pair = stage_pair (stage_start (vacant-sound h v)) chooses_tightest (name-object v.name) (new_object new a) (pair_told em ez eq p)
 
     abbrev x : PlacedPair
     x = pair.placed
@@ -253,11 +261,6 @@ parent-directory new k d e = sym (ap (λ (n : New). parent_field n d) e)
 
 pub parent-file : (new : New) (n d : ℕ) → new ≡ file n → [] ≡ parent_field new d
 parent-file new n d e = sym (ap (λ (n : New). parent_field n d) e)
-
-pub pair_told : {s t : List ℕ} {k m n m' n' : ℕ} {o o' : Option (ℕ × ℕ)} → m ≡ m' → n ≡ n' → o ≡ o' → PlacesPair tightest s k m n o t
-    → PlacesPair tightest s k m' n' o' t
-pair_told {s} {t} {k} {m} {n} {m'} {n'} {o} {o'} e f g p =
-    subst (λ (x : ℕ). PlacesPair tightest s k x n' o' t) e (subst (λ (x : ℕ). PlacesPair tightest s k m x o' t) f (subst (λ (x : Option (ℕ × ℕ)). PlacesPair tightest s k m n x t) g p))
 
 pub object-told : {m n m' n' : ℕ} → m ≡ m' → n ≡ n' → Object m' n' → Object m n
 object-told {m} {n} {m'} {n'} e f o = subst (λ (x : ℕ). Object x n) (sym e) (subst (λ (x : ℕ). Object m' x) (sym f) o)

@@ -26,10 +26,11 @@ use Rattle.tree.proofs.Formed.{Filled, dir_there, file-there, formed_dir, formed
 use Rattle.tree.proofs.Indexed.{slots-other}
 use Rattle.calls.specs.declared.refusal.Reason.TheVariants.{IsRoot, NotEmpty, NotFound}
 use Rattle.calls.specs.Refusal.{Accepted, For, Refusal}
-use Rattle.calls.specs.Answers.{DirectoryIn}
+use Rattle.calls.specs.Answers.{DirectoryIn, ObjectAt}
 use Rattle.calls.specs.Reading.{block_in}
 use Rattle.calls.specs.Walk.{Start, last_name, reached, refused, slot_named, start_above}
 use Rattle.calls.proofs.Lowest.{found-slot}
+use Rattle.calls.proofs.Stands.{slot-object}
 use Rattle.changes.specs.Answers.{Changes, TakenSlot}
 use Rattle.changes.specs.Changing.{remove, remove_at, remove_in, removed, set_slot}
 use Rattle.changes.proofs.Making.{slot-length}
@@ -153,6 +154,10 @@ pub found-taken : {s : List ℕ} {d i : ℕ} (w : List ℕ) → DirectoryIn s d 
 found-taken {s} {d} {i} w k e =
     let x = found-slot _ (block_in s d) i (sym e) in
     record { directory = k; slot = x.0; is-taken = (and_true (taken (slot_at (block_in s d) i)) _ x.1).0 }
+
+-- what it names is an object
+pub taken-object : {s : List ℕ} → AllBytes s → {d i : ℕ} → TakenSlot s d i → {x : Slot} → x ≡ slot_at (block_in s d) i → ObjectAt s x.1
+taken-object {s} h k e = subst (λ (y : Slot). ObjectAt s y.1) (sym e) (slot-object h k.directory _ k.slot k.is-taken)
 
 -- ---- on a path
 

@@ -5,9 +5,9 @@ use mathlib.Core.List.{List, [], ◌++◌, ◌∷◌}
 use mathlib.Core.Path.{◌∙◌, ◌≡◌, ap, refl, subst, sym}
 use native.Mathlib.Omega.{arith}
 use lib.ListN.{length}
-use Rattle.storage.specs.Bytes.{be64, u64_at, zeroed}
+use Rattle.storage.specs.Bytes.{be64, zeroed}
 use Rattle.storage.proofs.Numbers.{AllBytes, length-be64}
-use Rattle.alloc.specs.Block.{Block, block_of, size_at}
+use Rattle.alloc.specs.Block.{Block, size_at}
 use Rattle.alloc.specs.Gaps.{Choice}
 use Rattle.alloc.specs.Room.{after_update, updated, with_extents}
 use Rattle.alloc.specs.Sound.{Holds, Sound}
@@ -26,7 +26,7 @@ use Rattle.calls.specs.Refusal.{Accepted, For, Refusal}
 use Rattle.calls.specs.Answers.{FileIn}
 use Rattle.calls.specs.Reading.{block_in}
 use Rattle.calls.specs.Walk.{Start, as_file, reached, refused, start}
-use Rattle.calls.proofs.Contents.{size-read}
+use Rattle.calls.proofs.Contents.{file_numbers, room-is}
 use Rattle.calls.proofs.Steps.{over_file, reached-file}
 use Rattle.changes.specs.Answers.{Changes}
 use Rattle.changes.specs.Changing.{Outcome, resized, set_length, set_length_at, set_length_of, stored, unchanged, with_root, write, write_at, write_to, written}
@@ -60,6 +60,10 @@ open_file {s} h {r} f = record {
   there = file-there (block_in s r) f.kind;
   size = omega (arith, (formed-file s h f.formed r f.kind).1);
 }
+
+-- a file's room is small
+pub room_low : {s : List ℕ} → AllBytes s → {r : ℕ} → FileIn s r → room (block_in s r) ≤ 65536
+room_low {s} h {r} f = omega (arith, room-is h f, file_numbers h f)
 
 module _ {s : List ℕ} {r n : ℕ} {es : List Extent} {t : List ℕ} (o : Open s r n es t) where
   -- the image then
@@ -123,7 +127,7 @@ module _ {s : List ℕ} (h : AllBytes s) {r : ℕ} (f : FileIn s r) where
       → u ≡ after_update r 0 (be64 size) t → u ≡ image (stored s r size from x)
   size-stored from size x o e = open_image (store o 0 (be64 size) (omega (arith, length-be64 size)) e)
 
-  module _ {z : ℕ} (e : z ≡ u64_at (block_of s r).body 0) where
+  module _ {z : ℕ} (e : z ≡ file_size (block_in s r)) where
     -- a gap of zeros, then bytes; then the size
     module _ (position : ℕ) (bytes : List ℕ) {from : ℕ} (g : from ≡ min position z) (l : position + length bytes ≤ room (block_in s r)) {t : List ℕ}
         (et : t ≡ after_update r (16 + from) (zeroed (position - from)) s) where
@@ -144,7 +148,7 @@ module _ {s : List ℕ} (h : AllBytes s) {r : ℕ} (f : FileIn s r) where
             (size-stored from size (zeroed (position - from) ++ bytes) bytes_open ev
             ∙ ap (λ (m : ℕ). image (stored s r m from (zeroed (position - from) ++ bytes))) d
             ∙ ap (λ (k : ℕ). image (stored s r (max z (position + length bytes)) k (zeroed (position - k) ++ bytes))) g
-            ∙ ap (λ (m : ℕ). image (stored s r (max m (position + length bytes)) (min position m) (zeroed (position - min position m) ++ bytes))) (size-read h f e))
+            ∙ ap (λ (m : ℕ). image (stored s r (max m (position + length bytes)) (min position m) (zeroed (position - min position m) ++ bytes))) e)
           where
             by_bytes : (y : List ℕ) → 0 < length y
                 → v ≡ image (stored s r (max (file_size (block_in s r)) (position + length y)) (min position (file_size (block_in s r)))
@@ -154,10 +158,10 @@ module _ {s : List ℕ} (h : AllBytes s) {r : ℕ} (f : FileIn s r) where
             by_bytes (y ∷ ys) q w = record { refusal_is = refl; image-is = w }
 
     -- zeros between the old end and the new; then the size
-    module _ (size : ℕ) {from to : ℕ} (b : from ≤ size) (k : to ≡ max size z) (l : size ≤ room (block_in s r)) where
+    module _ (size : ℕ) {from to : ℕ} (g : from ≡ min size z) (k : to ≡ max size z) (l : size ≤ room (block_in s r)) where
       -- they lie within the data
       pub cut_inside : 16 + from + (to - from) ≤ room (block_in s r) + 16
-      cut_inside = omega (arith, size-read h f e, (formed-file s h f.formed r f.kind).0)
+      cut_inside = omega (arith, e, g, (formed-file s h f.formed r f.kind).0)
 
       module _ {t : List ℕ} (et : t ≡ after_update r (16 + from) (zeroed (to - from)) s) where
         -- after the zeros
@@ -165,14 +169,14 @@ module _ {s : List ℕ} (h : AllBytes s) {r : ℕ} (f : FileIn s r) where
         cut_open = store (open_file h f) (16 + from) (zeroed (to - from)) (omega (arith, length-zeroed (to - from), cut_inside)) et
 
         -- after the size
-        pub resized-done : from ≡ min size z → {v : List ℕ} → v ≡ after_update r 0 (be64 size) t → Changes (resized s r size) Accepted v
-        resized-done g {v} ev = record {
+        pub resized-done : {v : List ℕ} → v ≡ after_update r 0 (be64 size) t → Changes (resized s r size) Accepted v
+        resized-done {v} ev = record {
           refusal_is = refl;
           image-is =
               size-stored from size (zeroed (to - from)) cut_open ev
               ∙ ap (λ (m : ℕ). image (stored s r size from (zeroed (m - from)))) k
               ∙ ap (λ (m : ℕ). image (stored s r size m (zeroed (max size z - m)))) g
-              ∙ ap (λ (m : ℕ). image (stored s r size (min size m) (zeroed (max size m - min size m)))) (size-read h f e);
+              ∙ ap (λ (m : ℕ). image (stored s r size (min size m) (zeroed (max size m - min size m)))) e;
         }
 
 -- ---- the calls on a file, by how they begin

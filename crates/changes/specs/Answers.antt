@@ -3,6 +3,7 @@ use Rattle.std.specs.Prelude.{ℕ, ◌+◌, ◌*◌, ◌≤◌, ◌<◌, List, [
 use Rattle.storage.specs.Bytes.{be64}
 use Rattle.storage.specs.declared.Ref.{Ref}
 use Rattle.alloc.specs.Block.{SFde, SFre}
+use Rattle.alloc.specs.Tiling.{length_allowed}
 use Rattle.tree.specs.Fields.{total, slot_at, taken}
 use Rattle.calls.specs.declared.refusal.Refusal as declared-refusal
 use Rattle.calls.specs.Refusal.{Refusal}
@@ -10,7 +11,7 @@ use Rattle.calls.specs.Reading.{block_in}
 use Rattle.calls.specs.Answers.{DirectoryIn}
 use Rattle.changes.specs.declared.make.New as declared-new
 use Rattle.changes.specs.declared.make.New.TheVariants.{Directory, File}
-use Rattle.changes.specs.Changing.{Outcome, New, directory, file, allowed, Made}
+use Rattle.changes.specs.Changing.{Outcome, New, directory, file, Made}
 
 -- a call's answer, and the image then
 pub record Changes (o : Outcome) (refusal : Refusal) (image : List ℕ) : Type 0 where
@@ -47,17 +48,23 @@ abbrev pub parent_field : New → ℕ → List ℕ
 parent_field (directory k) d = be64 d
 parent_field (file n) d = []
 
+-- an image of n bytes has room for a root with k slots
+pub record RootFits (n k : ℕ) : Type 0 where
+  pub allowed : length_allowed n ≡ true
+  pub least : 0 < k
+  pub most : k ≤ 1024
+  pub fits : 48 + 16 * k ≤ n
+
 -- bytes that are as long as a name
 pub record Named (w : List ℕ) : Type 0 where
   pub least : 0 < length w
   pub most : length w ≤ 64
 
--- an empty slot that an object with this name is to have
-pub record Vacant (s : List ℕ) (d i : ℕ) (w : List ℕ) (new : New) : Type 0 where
+-- a slot that an object with this name is to have
+pub record Vacant (s : List ℕ) (d i : ℕ) (w : List ℕ) : Type 0 where
   pub directory : DirectoryIn s d
   pub slot : i < total (block_in s d)
   pub name : Named w
-  pub bounds : allowed new ≡ true
 
 -- a taken slot
 pub record TakenSlot (s : List ℕ) (d i : ℕ) : Type 0 where

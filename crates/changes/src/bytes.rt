@@ -1,6 +1,6 @@
 // Write and set length: the bytes of a file.
 
-ghost use Rattle.std.specs.Prelude.{◌≡◌, ◌+◌, ◌-◌, ◌≤◌, ◌<◌, length};
+ghost use Rattle.std.specs.Prelude.{◌+◌, ◌≤◌, ◌<◌, length};
 ghost use Rattle.tree.specs.Fields.{room};
 ghost use Rattle.calls.specs.Reading.{block_in};
 ghost use Rattle.calls.specs.Refusal.{Accepted};
@@ -8,25 +8,19 @@ ghost use Rattle.calls.specs.Answers.{FileIn, outcome_of};
 ghost use Rattle.changes.specs.Changing as spec;
 ghost use Rattle.changes.specs.Answers.{Changes};
 
-use alloc::{access, block};
+use alloc::access;
 use calls::objects::File;
 use calls::refusal::{Reason, Refusal};
 use calls::walk;
 use storage::{Pos, Ref};
 
-// The room of the file.
-fn room_of(file: File) -> u64
-    ensures { result ≡ room (block_in file.entry.image.now file.entry.at.0) }
-{
-    (block::size_at(file.image, file.at) - 16) as u64
-}
-
 // Bytes within the room: zeros in the gap after the old end, then the bytes, then the size.
+#[tactic(auto, using(crate::proofs::Storing::room_low))]
 fn put(image: &mut [u8], r: Ref, position: u64, bytes: &[u8])
     requires { FileIn image.old r.0 × (0 < length bytes.now) × (position + length bytes.now ≤ room (block_in image.old r.0)) }
     ensures { Changes (spec.written image.old r.0 position bytes.now) Accepted image.new }
 {
-    let old = access::read_u64(image, r, Pos(0));
+    let old = File { image, at: r }.size();
     let end = position + bytes.len() as u64;
     let from = position.min(old);
     access::zero(
@@ -44,7 +38,7 @@ fn write_to(image: &mut [u8], r: Ref, position: u64, bytes: &[u8]) -> Result<(),
     requires { FileIn image.old r.0 }
     ensures { Changes (spec.write_to image.old r.0 position bytes.now) (outcome_of result) image.new }
 {
-    let room = room_of(File { image, at: r });
+    let room = File { image, at: r }.room();
     let count = bytes.len() as u64;
     if room < position {
         return Err(Refusal::For(Reason::PastRoom));
@@ -68,11 +62,12 @@ pub fn write(image: &mut [u8], path: &[u8], position: u64, bytes: &[u8]) -> Resu
 }
 
 // A length within the room: zeros between the old end and the new, then the size.
+#[tactic(auto, using(crate::proofs::Storing::room_low))]
 fn resize(image: &mut [u8], r: Ref, size: u64)
     requires { FileIn image.old r.0 × (size ≤ room (block_in image.old r.0)) }
     ensures { Changes (spec.resized image.old r.0 size) Accepted image.new }
 {
-    let old = access::read_u64(image, r, Pos(0));
+    let old = File { image, at: r }.size();
     let from = size.min(old);
     let to = size.max(old);
     access::zero(image, r, Pos(16 + from as usize), (to - from) as usize);
@@ -84,7 +79,8 @@ fn set_length_of(image: &mut [u8], r: Ref, size: u64) -> Result<(), Refusal>
     requires { FileIn image.old r.0 }
     ensures { Changes (spec.set_length_of image.old r.0 size) (outcome_of result) image.new }
 {
-    if room_of(File { image, at: r }) < size {
+    let room = File { image, at: r }.room();
+    if room < size {
         return Err(Refusal::For(Reason::PastRoom));
     }
     resize(image, r, size);

@@ -1,11 +1,10 @@
 // Format: a new image with a root directory and nothing else.
 
-ghost use Rattle.std.specs.Prelude.{◌≡◌, true, ◌+◌, ◌*◌, ◌≤◌, ◌<◌, length};
-ghost use Rattle.alloc.specs.Tiling.{length_allowed};
+ghost use Rattle.std.specs.Prelude.{◌≡◌, length};
 ghost use Rattle.alloc.specs.Volume as volume;
 ghost use Rattle.calls.specs.Answers.{outcome_of};
 ghost use Rattle.changes.specs.Changing as spec;
-ghost use Rattle.changes.specs.Answers.{Changes};
+ghost use Rattle.changes.specs.Answers.{Changes, RootFits};
 
 use alloc::access;
 use alloc::block::Kind;
@@ -15,7 +14,7 @@ use tree::fields;
 
 // The root with so many slots, and the rest free.
 fn fresh(image: &mut [u8], slots: u32)
-    requires { (length_allowed (length image.old) ≡ true) × (0 < slots) × (slots < 1025) × (48 + 16 * slots ≤ length image.old) }
+    requires { RootFits (length image.old) slots }
     ensures { image.new ≡ volume.image (spec.formatted (length image.old) slots) }
 {
     alloc::create::empty(image, Ref(2));

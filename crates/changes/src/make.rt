@@ -15,7 +15,7 @@ use calls::objects::Directory;
 use calls::refusal::{Reason, Refusal};
 use calls::{slots, walk};
 use storage::{Pos, Ref};
-use tree::fields;
+use tree::fields::{self, Slot};
 
 // What is to be made: a directory with so many slots, or a file with so much room.
 #[derive(Clone, Copy)]
@@ -24,32 +24,42 @@ pub enum New {
     File(u64),
 }
 
-fn allowed(new: New) -> bool
-    ensures { result ≡ spec.allowed (new_of new) }
-{
-    match new {
-        New::Directory(slots) => (1 <= slots) & (slots <= 1024),
-        New::File(room) => room <= 65536,
+impl New {
+    fn is_allowed(self) -> bool
+        ensures { result ≡ spec.allowed (new_of self) }
+    {
+        match self {
+            New::Directory(slots) => (1 <= slots) & (slots <= 1024),
+            New::File(room) => room <= 65536,
+        }
+    }
+
+    fn kind(self) -> Kind
+        ensures { kind_magic result ≡ magic_for (new_of self) }
+    {
+        match self {
+            New::Directory(_) => Kind::Directory,
+            New::File(_) => Kind::File,
+        }
     }
 }
 
-fn kind_of(new: New) -> Kind
-    ensures { kind_magic result ≡ magic_for (new_of new) }
-{
-    match new {
-        New::Directory(_) => Kind::Directory,
-        New::File(_) => Kind::File,
-    }
+// What may be made.
+#[derive(Clone, Copy)]
+struct Allowed {
+    new: New,
+    ghost allowed: { spec.allowed (new_of new) ≡ true },
 }
 
-// How many bytes of data its block has.
-fn size_of(new: New) -> u32
-    requires { spec.allowed (new_of new) ≡ true }
-    ensures { result ≡ size_for (new_of new) }
-{
-    match new {
-        New::Directory(slots) => fields::directory_size(slots as u32),
-        New::File(room) => 16 + room as u32,
+impl Allowed {
+    // How many bytes of data its block has.
+    fn size(self) -> u32
+        ensures { result ≡ size_for (new_of self.new) }
+    {
+        match self.new {
+            New::Directory(slots) => fields::directory_size(slots as u32),
+            New::File(room) => 16 + room as u32,
+        }
     }
 }
 
@@ -65,40 +75,46 @@ fn write_parent(image: &mut [u8], o: Ref, new: New, d: Ref)
 }
 
 // Both blocks, their data, and their refs in slot `i` of the directory at `d`; refused where there is no room.
-fn fill(image: &mut [u8], d: Ref, i: usize, name: &[u8], new: New) -> Result<Ref, Refusal>
-    requires { Vacant image.old d.0 i name.now (new_of new) }
-    ensures { Makes (spec.fill_slot image.old (new_of new) name.now d.0 i) (outcome_of result) (ref_of result) image.new }
+fn fill(image: &mut [u8], d: Ref, i: usize, name: &[u8], what: Allowed) -> Result<Ref, Refusal>
+    requires { Vacant image.old d.0 i name.now }
+    ensures { Makes (spec.fill_slot image.old (new_of what.new) name.now d.0 i) (outcome_of result) (ref_of result) image.new }
 {
-    let placed = pair::place(image, name.len() as u32, kind_of(new), size_of(new));
+    let new = what.new;
+    let placed = pair::place(image, name.len() as u32, new.kind(), what.size());
     let Some(pair) = placed else {
         return Err(Refusal::For(Reason::NoRoom));
     };
     access::copy_in(image, pair.name, Pos(0), name);
     write_parent(image, pair.object, new, d);
-    crate::slot::set(image, d, i, pair.name, pair.object);
+    let slot = Slot {
+        name: pair.name,
+        object: pair.object,
+    };
+    crate::slot::set(image, d, i, slot);
     Ok(pair.object)
 }
 
 // In the directory at `d`: refused, or made.
-fn make_in(image: &mut [u8], d: Ref, name: &[u8], new: New) -> Result<Ref, Refusal>
-    requires { DirectoryIn image.old d.0 × Named name.now × (spec.allowed (new_of new) ≡ true) }
-    ensures { Makes (spec.make_in image.old (new_of new) name.now d.0) (outcome_of result) (ref_of result) image.new }
+fn make_in(image: &mut [u8], d: Ref, name: &[u8], what: Allowed) -> Result<Ref, Refusal>
+    requires { DirectoryIn image.old d.0 × Named name.now }
+    ensures { Makes (spec.make_in image.old (new_of what.new) name.now d.0) (outcome_of result) (ref_of result) image.new }
 {
-    if slots::with_name(Directory { image, at: d }, name).is_some() {
+    let directory = Directory { image, at: d };
+    if slots::with_name(directory, name).is_some() {
         return Err(Refusal::For(Reason::Exists));
     }
-    let Some(i) = slots::empty(Directory { image, at: d }) else {
+    let Some(i) = slots::empty(directory) else {
         return Err(Refusal::For(Reason::NoSlot));
     };
-    fill(image, d, i, name, new)
+    fill(image, d, i, name, what)
 }
 
 // The object that the path names.
 pub fn make(image: &mut [u8], path: &[u8], new: New) -> Result<Ref, Refusal>
     ensures { Makes (spec.make image.old path.now (new_of new)) (outcome_of result) (ref_of result) image.new }
 {
-    let d = walk::begin_above(image, path, allowed(new), Reason::Exists)?;
-    make_in(image, d, walk::last_name(path), new)
+    let d = walk::begin_above(image, path, new.is_allowed(), Reason::Exists)?;
+    make_in(image, d, walk::last_name(path), Allowed { new })
 }
 
 // A directory with so many empty slots.

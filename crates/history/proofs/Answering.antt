@@ -12,6 +12,7 @@ use Rattle.calls.specs.declared.refusal.Reason.TheVariants.{OutOfBounds}
 use Rattle.calls.specs.Refusal.{Accepted, For}
 use Rattle.calls.specs.Reading.{Found, block_in, copied, find, found_at, kind_of, point_at, read, read_at, read_point}
 use Rattle.calls.specs.Walk.{Walk, at, opening, reached, refused, start, walk_from, walked}
+use Rattle.calls.proofs.Checking.{formed_checked}
 use Rattle.calls.proofs.Steps.{opening-bounds, opening_none, or_passed, or_refused_lem}
 use Rattle.history.specs.Listing.{Line}
 use Rattle.history.specs.Book.{Tree}
@@ -35,7 +36,7 @@ module _ {n : ℕ} {s : List ℕ} {t : Tree} (g : Good n s t) where
     begins : (allowed : Bool) → allowed ≡ true → {r : ℕ} → where_to ws ≡ at r → start s p allowed ≡ reached r
     unfolding start
     begins allowed a e =
-        let o = opening_none s p allowed (good_formed n s t g) (way_valid w) a in
+        let o = opening_none s p allowed (formed_checked s (good_formed n s t g)) (way_valid w) a in
         sym (or_passed (opening s p allowed) (walk_from s (components p)) o refl refl)
         ∙ ap (walk_from s) (way_components w)
         ∙ ap walked (walk_is (objects (volume_of s)) (volume_of s).root g.block g.node g.rep ws ∙ e)
@@ -44,7 +45,7 @@ module _ {n : ℕ} {s : List ℕ} {t : Tree} (g : Good n s t) where
     begins_not : (allowed : Bool) → allowed ≡ false → start s p allowed ≡ refused (For OutOfBounds)
     unfolding start
     begins_not allowed a =
-        sym (or_refused_lem (opening s p allowed) (walk_from s (components p)) (opening-bounds s p allowed (good_formed n s t g) (way_valid w) a)
+        sym (or_refused_lem (opening s p allowed) (walk_from s (components p)) (opening-bounds s p allowed (formed_checked s (good_formed n s t g)) (way_valid w) a)
         refl (λ z. omega arith))
 
     -- ---- find

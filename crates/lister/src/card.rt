@@ -1,22 +1,20 @@
 // A card, printed.
 
-ghost use Rattle.std.specs.Prelude.{◌≡◌, true};
-ghost use Rattle.tree.specs.Verdict.{well_formed};
-
 use crate::line;
-use calls::refusal;
-use calls::refusal::Refusal;
+use calls::check::WellFormed;
+use calls::refusal::{Reason, Refusal};
+use calls::{check, refusal};
 use listing::seek::Lines;
 use std::io;
 use storage::Ref;
 
 // An image that is longer than the program holds.
 pub fn refuse_longer(rt: &impl Print) -> io::Result<()> {
-    println!(rt; "refused 1")
+    println!(rt; "refused {}", Reason::BadLength as u8)
 }
 
 // The number, and the place last.
-fn refuse(rt: &impl Print, answer: &Result<(), Refusal>) -> io::Result<()> {
+fn refuse<T>(rt: &impl Print, answer: &Result<T, Refusal>) -> io::Result<()> {
     println!(rt;
         "refused {} {}",
         refusal::number(answer),
@@ -24,30 +22,25 @@ fn refuse(rt: &impl Print, answer: &Result<(), Refusal>) -> io::Result<()> {
     )
 }
 
-// Every line, with the name refs of its object and of the directories above it, each at its depth.
-fn show_lines(rt: &impl Print, image: &[u8]) -> io::Result<()>
-    requires { well_formed image.now ≡ true }
-{
+// The length of the image and its free units, then every line, with the name refs of its object and of the directories above it.
+fn list(rt: &impl Print, formed: WellFormed) -> io::Result<()> {
+    let WellFormed { image } = formed;
+    let free = formed.tiled().free_units();
+    println!(rt; "image {} free {free}", image.len())?;
     let mut names = [Ref(0); 17];
-    for line in Lines::new(image) {
-        if let Some(name) = names.get_mut(line.depth as usize) {
-            *name = line.name;
-        }
-        line::say(rt, image, line, &names)?;
+    for line in Lines::new(formed) {
+        let depth = line.node.depth.min(16) as usize;
+        names[depth] = line.node.name;
+        line::say(rt, image, line, &names[1..=depth])?;
     }
     Ok(())
 }
 
-// The length of the image, its free units, and every line; or the refusal.
+// The listing, or the refusal.
 pub fn show(rt: &impl Print, image: &[u8]) -> io::Result<()> {
-    let own = calls::check::check(image);
-    if refusal::number(&own) != 0 {
-        return refuse(rt, &own);
+    let answer = check::well_formed(image);
+    match answer {
+        Err(_) => refuse(rt, &answer),
+        Ok(formed) => list(rt, formed),
     }
-    println!(rt;
-        "image {} free {}",
-        image.len(),
-        alloc::chain::free_units(image)
-    )?;
-    show_lines(rt, image)
 }

@@ -8,18 +8,18 @@ use native.Mathlib.Numerals.{add-one}
 use native.Mathlib.Omega.{arith}
 use lib.ListN.{length, length-append}
 use Rattle.storage.proofs.Numbers.{AllBytes}
-use Rattle.alloc.specs.Block.{Block, block_of}
+use Rattle.alloc.specs.Block.{Block}
 use Rattle.alloc.specs.Volume.{Objects, block_at, objects, volume_of}
-use Rattle.tree.specs.Answers.{DirectoryAt, slot_of}
+use Rattle.tree.specs.Answers.{slot_of}
 use Rattle.tree.specs.declared.fields.Slot as declared-slot
 use Rattle.tree.specs.Fields.{Slot, is_dir, slot_at, slots, slots_from, taken, total}
-use Rattle.tree.proofs.Rows.{slot-inside}
+use Rattle.tree.proofs.Rows.{slot-inside as inside-directory}
 use Rattle.calls.specs.Answers.{DirectoryIn, ObjectAt}
 use Rattle.calls.specs.Reading.{block_in}
-use Rattle.calls.proofs.Stands.{slot_here, slot-object, slot_read}
+use Rattle.calls.proofs.Stands.{slot_here, slot-object}
 use Rattle.listing.specs.declared.lines.Node.{Node}
 use Rattle.listing.specs.Held.{held_lines, slot_count}
-use Rattle.listing.specs.Nodes.{NodeIn, child_of, levels, lines_at, lines_in}
+use Rattle.listing.specs.Nodes.{ChildOf, child_of, levels, lines_at, lines_in, slot_in}
 use Rattle.history.specs.Listing.{Line, line_of, object_lines, slot_lines}
 
 pub pred_suc : (k : ℕ) → suc k - 1 ≡ k
@@ -103,72 +103,56 @@ count_all b (suc k) h e = sym (rw e)
 
 -- ---- a slot that is gone through
 
--- slot j of the directory at a node, which has levels below it
-pub record Gone (s : List ℕ) (d : Node) (j : ℕ) : Type 0 where
-  pub low : d.depth < 16
-  pub counted : j < slot_count (levels d.depth) (block_in s d.at.0)
-  pub read : DirectoryAt s d.at.0 × (j < total (block_of s d.at.0))
-  pub few : j < 1024
-  pub read_is : {x : Slot} → x ≡ slot_at (block_of s d.at.0) j → x ≡ slot_at (block_in s d.at.0) j
-  pub object : taken (slot_at (block_in s d.at.0) j) ≡ true → ObjectAt s (slot_at (block_in s d.at.0) j).1
+pub directory-here : {s : List ℕ} {r : ℕ} → ObjectAt s r → is_dir (block_in s r) ≡ true → DirectoryIn s r
+directory-here o e = record { formed = o.formed; kind = e }
 
-pub gone : {s : List ℕ} → AllBytes s → {d : Node} → NodeIn s d → {j n : ℕ} → n ≡ slot_count (levels d.depth) (block_in s d.at.0) → j < n → Gone s d j
-gone {s} b {d} o {j} e l =
-    let h : j < slot_count (levels d.depth) (block_in s d.at.0) = omega arith in
-    let c = counted-directory (levels d.depth) (block_in s d.at.0) h in
-    let r : DirectoryIn s d.at.0 = record { formed = o.object.formed; kind = c.0 } in
-    let k : j < total (block_in s d.at.0) = omega (arith, c.2) in
-    let a : DirectoryAt s d.at.0 × (j < total (block_of s d.at.0)) = slot_here b r j k in
-    record {
-      low = omega (arith, c.1);
-      counted = h;
-      read = a;
-      few = (slot-inside a.0 j a.1).1;
-      read_is = slot_read b r j;
-      object = slot-object b r j k;
-    }
+module _ {s : List ℕ} (b : AllBytes s) (d : Node) (o : ObjectAt s d.at.0) (j : ℕ) (h : j < slot_count (levels d.depth) (block_in s d.at.0)) where
+  -- it lies in a directory
+  pub slot-inside : DirectoryIn s d.at.0 × (j < total (block_in s d.at.0))
+  slot-inside =
+      let c = counted-directory (levels d.depth) (block_in s d.at.0) h in
+      (directory-here o c.0, omega (arith, c.2))
 
--- a node of the object that slot j names
-pub record Child (s : List ℕ) (d : Node) (j : ℕ) (x : Node) : Type 0 where
-  pub there : NodeIn s x
+  pub slot-low : d.depth < 16
+  slot-low = omega (arith, (counted-directory (levels d.depth) (block_in s d.at.0) h).1)
+
+  pub slot_few : j < 1024
+  slot_few = let a = slot_here b slot-inside.0 j slot-inside.1 in (inside-directory a.0 j a.1).1
+
+  -- the object that it names, where it is taken
+  module _ {c : declared-slot.Slot} (q : slot_of c ≡ slot_in s d j) (e : taken (slot_of c) ≡ true) where
+    taken-here : taken (slot_in s d j) ≡ true
+    taken-here = ap taken (sym q) ∙ e
+
+    pub child-object : ObjectAt s c.object.0
+    child-object = subst (λ (v : Slot). ObjectAt s v.1) (sym q) (slot-object b slot-inside.0 j slot-inside.1 taken-here)
+
+    pub child-is : ChildOf s d j s (child_of d (slot_of c))
+    child-is = record { same_image = refl; is-taken = taken-here; node-is = ap (child_of d) q }
+
+-- ---- the lines of the slots from one on
+
+-- an empty slot holds no line
+pub empty-lines : (s : List ℕ) (d : Node) {j : ℕ} → j < slot_count (levels d.depth) (block_in s d.at.0) → taken (slot_in s d j) ≡ false → lines_in s d j ≡ lines_in s d (j + 1)
+empty-lines s d {j} h e = held-empty (objects (volume_of s)) d.at.0 d.depth (levels d.depth) j h refl e
+
+-- a taken one those of its object
+module _ {s : List ℕ} {d : Node} {j : ℕ} {t : List ℕ} {x : Node} (c : ChildOf s d j t x) where
   pub deeper : x.depth ≡ d.depth + 1
-  pub below : levels x.depth + 1 ≡ levels d.depth
-  pub parent_is : x.parent.0 ≡ d.at.0
-  pub is-taken : taken (x.name.0, x.at.0) ≡ true
-  pub counted : j < slot_count (levels d.depth) (block_in s d.at.0)
-  pub slot_is : (x.name.0, x.at.0) ≡ slot_at (block_in s d.at.0) j
+  deeper = ap (λ (y : Node). y.depth) c.node-is
 
-module _ {s : List ℕ} {d : Node} {j : ℕ} (g : Gone s d j) {c : declared-slot.Slot} (q : slot_of c ≡ slot_at (block_of s d.at.0) j) {t : Bool} (u : t ≡ taken (slot_of c)) where
-  -- an empty slot holds no line
-  pub gone_empty : t ≡ false → lines_in s d j ≡ lines_in s d (j + 1)
-  gone_empty e = held-empty (objects (volume_of s)) d.at.0 d.depth (levels d.depth) j g.counted (g.read_is q) (sym u ∙ e)
+  pub child-levels : levels d.depth - 1 ≡ levels x.depth
+  child-levels = omega (arith, deeper)
 
-  -- the object of a taken one
-  pub gone_child : t ≡ true → {x : Node} → x ≡ child_of d c → Child s d j x
-  gone_child f {x} y =
-      let e : (c.name.0, c.object.0) ≡ slot_at (block_in s d.at.0) j = g.read_is q in
-      let o : ObjectAt s c.object.0 =
-      subst (λ (v : Slot). ObjectAt s v.1) (sym e) (g.object (ap taken (sym e) ∙ sym u ∙ f)) in
-      subst (Child s d j) (sym y) (record {
-        there = record { object = o; low = omega (arith, g.low) };
-        deeper = refl;
-        below = omega (arith, g.low);
-        parent_is = refl;
-        is-taken = sym u ∙ f;
-        counted = g.counted;
-        slot_is = e;
-      })
+  module _ (h : j < slot_count (levels d.depth) (block_in s d.at.0)) where
+    pub below : levels x.depth + 1 ≡ levels d.depth
+    below = omega (arith, deeper, (counted-directory (levels d.depth) (block_in s d.at.0) h).1)
 
-pub child-levels : {s : List ℕ} {d : Node} {j : ℕ} {x : Node} → Child s d j x → levels d.depth - 1 ≡ levels x.depth
-child-levels c = omega (arith, c.below)
+    pub child-lines : lines_in s d j ≡ lines_at t x ++ lines_in s d (j + 1)
+    child-lines =
+        held-taken (objects (volume_of s)) d.at.0 d.depth (levels d.depth) j h refl c.is-taken
+        ∙ rw (child-levels, c.same_image, c.node-is)
 
--- the lines of the slots from this one on
-module _ {s : List ℕ} {d : Node} {j : ℕ} {x : Node} (c : Child s d j x) where
-  pub child-lines : lines_in s d j ≡ lines_at s x ++ lines_in s d (j + 1)
-  child-lines =
-      held-taken (objects (volume_of s)) d.at.0 d.depth (levels d.depth) j c.counted c.slot_is c.is-taken
-      ∙ rw (child-levels c, sym c.deeper, sym c.parent_is)
-
-  -- where those have room its object's have
-  pub child-room : (at m : ℕ) → at + length (lines_in s d j) ≤ m → at + length (lines_at s x) ≤ m
-  child-room at m h = omega (arith, ap length child-lines, length-append (lines_at s x) (lines_in s d (j + 1)))
+    -- where those have room its object's have
+    pub child-room : (at m : ℕ) → at + length (lines_in s d j) ≤ m → at + length (lines_at t x) ≤ m
+    child-room at m k = omega (arith, ap length child-lines, length-append (lines_at t x) (lines_in s d (j + 1)))

@@ -5,11 +5,11 @@ use mathlib.Core.List.{List, [], ◌++◌, ◌∷◌, append_assoc, append-nil}
 use mathlib.Core.Path.{◌∙◌, ◌≡◌, ap, refl, subst, sym}
 use native.Mathlib.Omega.{arith}
 use lib.Dec.{leb}
-use lib.ListN.{drop, length, length-append, length-take, set, take, take-append-drop}
-use lib.Seq.{length-take-le, take_all, take-nil}
+use lib.ListN.{length, length-append, length-take, set, take}
+use lib.Seq.{take_all, take-nil}
 use borrow.Author.Tests.{leb-false, leb-true}
 use Rattle.storage.specs.Bytes.{splice}
-use Rattle.storage.proofs.Splice.{length-splice, sets_splice, splice-append, splice-left, splice_none}
+use Rattle.storage.proofs.Splice.{length-splice, sets_splice, splice-append, splice_none}
 use Rattle.alloc.specs.Volume.{objects, volume_of}
 use Rattle.calls.specs.Reading.{block_in}
 use Rattle.tree.specs.Fields.{is_dir}
@@ -132,13 +132,12 @@ module _ (s : List ℕ) (x : Node) {i : ℕ} {m m' : List ℕ} (v : Stores i (ow
   pub stores_object : {k : ℕ} {m'' : List ℕ} → Stores (i + 1) (lines_in s x 0) m' k m'' → Stores i (lines_at s x) m k m''
   stores_object {k} {m''} w = subst (λ (ls : List Line). Stores i ls m k m'') (sym own_lines) (stores_both (omega arith) v (as_long m v.same_size w))
 
-  -- a file, whose node is y: its own line alone
-  pub stores_file : {y : Node} → x ≡ y → is_dir (block_in s y.at.0) ≡ false → Stores i (lines_at s x) m (i + 1) m'
-  stores_file {y} q e =
-      let f : is_dir (block_in s x.at.0) ≡ false = ap (λ (v : Node). is_dir (block_in s v.at.0)) q ∙ e in
+  -- a file: its own line alone
+  pub stores_file : is_dir (block_in s x.at.0) ≡ false → Stores i (lines_at s x) m (i + 1) m'
+  stores_file e =
       subst (λ (ls : List Line). Stores i ls m (i + 1) m')
       (sym (own_lines ∙ ap (λ (ls : List Line). own_line s x ∷ ls)
-      (held_none (objects (volume_of s)) x.at.0 x.depth (levels x.depth) 0 (omega (arith, count-file (block_in s x.at.0) (levels x.depth) f))))) v
+      (held_none (objects (volume_of s)) x.at.0 x.depth (levels x.depth) 0 (omega (arith, count-file (block_in s x.at.0) (levels x.depth) e))))) v
 
 -- room for all is room for what follows the first
 pub object-behind : (s : List ℕ) (x : Node) (i : ℕ) {m : ℕ} → i + length (lines_at s x) ≤ m → i + 1 + length (lines_in s x 0) ≤ m
@@ -165,22 +164,3 @@ module _ {i : ℕ} {all rest : List Line} {before : List ℕ} {at : ℕ} {now : 
     left = omega (arith, w.left, v.next, ap length e, length-append xs ys);
     same_size = v.same_size ∙ w.same_size;
   }
-
--- ---- the lines of the image
-
--- those before line n, in a row whose front has room for just them
-pub stored-first : (n : ℕ) (m : List ℕ) {ls : List Line} {k : ℕ} {m' : List ℕ} → 7 * n ≤ length m → Stores 0 ls (take (7 * n) m) k m'
-    → m' ++ drop (7 * n) m ≡ splice m 0 (numbers_of (take n ls))
-stored-first n m {ls} {k} {m'} h w =
-    let l : length (take (7 * n) m) ≡ 7 * n = length-take-le (7 * n) m h in
-    let z : length (take (7 * n) m) / 7 - 0 ≡ n = omega arith in
-    let x : List ℕ = numbers_of (take n ls) in
-    let f : 0 + length x ≤ length (take (7 * n) m) = omega (arith, length_numbers (take n ls), length-take n ls) in
-    ap (λ (v : List ℕ). v ++ drop (7 * n) m) (w.stored ∙ ap (λ (t : ℕ). splice (take (7 * n) m) 0 (numbers_of (take t ls))) z)
-    ∙ sym (splice-left (take (7 * n) m) (drop (7 * n) m) x 0 f)
-    ∙ ap (λ (v : List ℕ). splice v 0 x) (take-append-drop (7 * n) m)
-
--- none of them
-pub stored_none : (ls : List Line) (n : ℕ) (m : List ℕ) → n ≡ 0 → m ≡ splice m 0 (numbers_of (take n ls))
-unfolding numbers_of
-stored_none ls n m e = sym (ap (λ (k : ℕ). splice m 0 (numbers_of (take k ls))) e ∙ splice_none m 0)

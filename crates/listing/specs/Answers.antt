@@ -1,8 +1,7 @@
 -- What the answers of this crate's functions say, and what they require.
-use Rattle.std.specs.Prelude.{◌<◌, ◌≤◌, suc, zero, ℕ, List, [], ◌++◌, ◌∷◌, map, ◌≡◌, true, drop, get_or, length}
+use Rattle.std.specs.Prelude.{suc, zero, ℕ, List, [], ◌++◌, ◌∷◌, map, ◌≡◌, get_or, length}
 use Rattle.storage.specs.declared.Ref.{Ref}
 use Rattle.tree.specs.Fields.{total}
-use Rattle.tree.specs.Verdict.{well_formed}
 use Rattle.calls.specs.Refusal.{Refusal}
 use Rattle.calls.specs.declared.reading.Kind as declared-kind
 use Rattle.calls.specs.declared.reading.Kind.TheVariants.{File, Directory}
@@ -12,7 +11,7 @@ use Rattle.listing.specs.declared.lines.Line as declared-line
 use Rattle.history.specs.Listing.{Line, Listed, lines_of, list}
 
 abbrev pub line_is : declared-line.Line → Line
-line_is l = record { ref = l.at.0; parent = l.parent.0; name = l.name.0; depth = l.depth; kind = kind_is l.kind }
+line_is l = record { ref = l.node.at.0; parent = l.node.parent.0; name = l.node.name.0; depth = l.node.depth; kind = kind_is l.kind }
 
 -- ---- the call
 
@@ -25,7 +24,7 @@ kind_as (file size room) = File size room
 kind_as (directory taken total) = Directory taken total
 
 unfoldable pub line_as : Line → declared-line.Line
-line_as l = record { at = ref_as l.ref; parent = ref_as l.parent; name = ref_as l.name; depth = l.depth; kind = kind_as l.kind }
+line_as l = record { node = record { at = ref_as l.ref; parent = ref_as l.parent; name = ref_as l.name; depth = l.depth }; kind = kind_as l.kind }
 
 -- what stands where there is no line
 abbrev pub no_line : Line
@@ -39,16 +38,6 @@ line_no s i = line_as (get_or (lines_of s) i no_line)
 abbrev pub lines_to : List ℕ → ℕ → List declared-line.Line
 lines_to s zero = []
 lines_to s (suc n) = lines_to s n ++ (line_no s n ∷ [])
-
--- a lent row once they stand in it
-abbrev pub filled : List ℕ → ℕ → List declared-line.Line → List declared-line.Line
-filled s n lent = lines_to s n ++ drop n lent
-
--- n lines of the image may be stored in a row of `lent` lines
-pub record Fillable (s : List ℕ) (n lent : ℕ) : Type 0 where
-  pub fits : n ≤ lent
-  pub formed : 0 < n → well_formed s ≡ true
-  pub there : n ≤ length (lines_of s)
 
 -- the call's refusal and count, where so many lines are lent
 pub record AnswersFor (s : List ℕ) (n : ℕ) (refusal : Refusal) (count : ℕ) : Type 0 where

@@ -42,10 +42,10 @@ pub fn put(numbers: &mut [u64], at: usize, l: Line)
     requires { at + 7 ≤ length numbers.old }
     ensures { numbers.new ≡ splice numbers.old at (seven_of (line_is l)) }
 {
-    numbers[at] = l.at.0;
-    numbers[at + 1] = l.parent.0;
-    numbers[at + 2] = l.name.0;
-    numbers[at + 3] = l.depth;
+    numbers[at] = l.node.at.0;
+    numbers[at + 1] = l.node.parent.0;
+    numbers[at + 2] = l.node.name.0;
+    numbers[at + 3] = l.node.depth;
     numbers[at + 4] = u64::from(directory_of(l.kind));
     numbers[at + 5] = first_of(l.kind);
     numbers[at + 6] = second_of(l.kind);

@@ -1,35 +1,40 @@
 // The call: the caller lends a row of lines.
 
-ghost use Rattle.std.specs.Prelude.{◌≡◌, cond, map, length};
-ghost use Rattle.calls.specs.Refusal.{accepted};
+ghost use Rattle.std.specs.Prelude.{◌≡◌, ◌≤◌, map, length, IfOk};
 ghost use Rattle.calls.specs.Answers.{outcome_of};
-ghost use Rattle.listing.specs.Answers.{line_is, filled, Fillable, AnswersFor, Lists};
+ghost use Rattle.listing.specs.Answers.{line_is, lines_to, AnswersFor, Lists};
 ghost use Rattle.history.specs.Listing as spec;
+ghost use Rattle.history.specs.Listing.{lines_of};
 
 use crate::lines::Line;
 use crate::seek::Lines;
 use crate::walk;
-use calls::refusal;
+use calls::check;
+use calls::check::WellFormed;
 use calls::refusal::{Reason, Refusal};
 
-// Whether the call is refused, and how many lines the image has.
+// What the call hands on, or why it is refused; and how many lines the image has.
 #[derive(Clone, Copy)]
-pub struct Listed {
-    pub outcome: Result<(), Refusal>,
+pub struct Listed<T> {
+    pub outcome: Result<T, Refusal>,
     pub count: u64,
 }
 
-// The answer where so many lines are lent.
-pub fn answer(image: &[u8], lent: usize) -> Listed
-    ensures { AnswersFor image.now lent (outcome_of result.outcome) result.count }
+// How the call begins where so many lines are lent: with the image whose lines are told.
+pub fn count(image: &[u8], lent: usize) -> Listed<WellFormed<'_>>
+    ensures answers { AnswersFor image.now lent (outcome_of result.outcome) result.count }
+    ensures same_image { IfOk result.outcome (λ f. f.image.now ≡ image.now) }
 {
-    if let Err(own) = calls::check::check(image) {
-        return Listed {
-            outcome: Err(own),
-            count: 0,
-        };
-    }
-    let count = walk::count(image);
+    let formed = match check::well_formed(image) {
+        Err(own) => {
+            return Listed {
+                outcome: Err(own),
+                count: 0,
+            }
+        }
+        Ok(formed) => formed,
+    };
+    let count = walk::count(formed);
     if (lent as u64) < count {
         return Listed {
             outcome: Err(Refusal::For(Reason::TooFewLines)),
@@ -37,31 +42,18 @@ pub fn answer(image: &[u8], lent: usize) -> Listed
         };
     }
     Listed {
-        outcome: Ok(()),
+        outcome: Ok(formed),
         count,
     }
 }
 
-// How many lines are filled: on a refusal none.
-pub fn to_fill(a: Listed) -> usize
-    ensures { result ≡ cond (accepted (outcome_of a.outcome)) a.count 0 }
+// The first lines of the image, as many as there is room for.
+fn fill(formed: WellFormed, lines: &mut [Line])
+    requires { length lines.old ≤ length (lines_of formed.image.now) }
+    ensures { lines.new ≡ lines_to formed.entry.image.now (length lines.old) }
 {
-    if refusal::number(&a.outcome) != 0 {
-        return 0;
-    }
-    a.count as usize
-}
-
-// The first `n` lines.
-fn fill(image: &[u8], lines: &mut [Line], n: usize)
-    requires { Fillable image.now n (length lines.old) }
-    ensures { lines.new ≡ filled image.now n lines.old }
-{
-    if n == 0 {
-        return;
-    }
-    let mut ahead = Lines::new(image);
-    for line in lines[..n].iter_mut() {
+    let mut ahead = Lines::new(formed);
+    for line in lines {
         if let Some(next) = ahead.next() {
             *line = next;
         }
@@ -69,11 +61,16 @@ fn fill(image: &[u8], lines: &mut [Line], n: usize)
 }
 
 // A line for every object of the image, the root first.
-pub fn list(image: &[u8], lines: &mut [Line]) -> Listed
+pub fn list(image: &[u8], lines: &mut [Line]) -> Listed<()>
     ensures { Lists (spec.list image.now (map line_is lines.old)) (outcome_of result.outcome) result.count lines.new }
 {
-    let a = answer(image, lines.len());
-    let n = to_fill(a);
-    fill(image, lines, n);
-    a
+    let Listed { outcome, count } = count(image, lines.len());
+    if let Ok(formed) = outcome {
+        let (told, _) = lines.split_at_mut(count as usize);
+        fill(formed, told);
+    }
+    Listed {
+        outcome: outcome.and(Ok(())),
+        count,
+    }
 }

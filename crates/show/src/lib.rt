@@ -27,9 +27,8 @@ pub const FREE: u64 = 0x53466672_00000000;
 pub fn spread(words: &[u64], image: &mut [u8])
     ensures { image.new ≡ spread_over words.now image.old }
 {
-    let n = words.len().min(image.len() / 8);
-    for i in 0..n {
-        storage::write_u64(image, Offset(8 * i), words[i]);
+    for (i, word) in words.iter().take(image.len() / 8).enumerate() {
+        storage::write_u64(image, Offset(8 * i), *word);
     }
 }
 

@@ -3,6 +3,7 @@
 ghost use Rattle.std.specs.Prelude.{◌≤◌, ◌<◌, length, ◌≡◌};
 ghost use Rattle.changes.specs.Changing as changing;
 
+use alloc::block::Header;
 use calls::reading;
 use show::text::{Answer, Hex};
 use std::{fmt, io};
@@ -123,8 +124,8 @@ pub fn block(rt: &impl Print, image: &[u8; 256], r: Ref) -> io::Result<()>
     requires { r.0 < 16 }
 {
     let from = storage::start(r).0;
-    let units = alloc::block::units_at(image, r);
-    let size = alloc::block::size_at(image, r);
+    let header = Header { image, at: r };
+    let (units, size) = (header.units(), header.size());
     print!(rt; "  {} ", r.0)?;
     rt.write_all(&image[from..from + 4])?;
     println!(rt; ", units {units}, size {size}")

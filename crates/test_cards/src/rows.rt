@@ -3,7 +3,7 @@
 ghost use Rattle.std.specs.Prelude.{◌≤◌};
 
 use calls::reading::Kind;
-use listing::lines::Line;
+use listing::lines::{Line, Node};
 use listing::rows;
 use listing::rows::Listed;
 use show::read_full;
@@ -14,24 +14,25 @@ use storage::Ref;
 
 // Lines that no listing has.
 fn blank() -> [Line; 4] {
-    let line = Line {
+    let node = Node {
         at: Ref(99),
         parent: Ref(99),
         name: Ref(99),
         depth: 99,
-        kind: Kind::File { size: 99, room: 99 },
     };
-    [line; 4]
+    let kind = Kind::File { size: 99, room: 99 };
+    [Line { node, kind }; 4]
 }
 
 fn show_line(rt: &impl Print, l: Line) -> io::Result<()> {
-    let (at, parent, name, depth) = (l.at.0, l.parent.0, l.name.0, l.depth);
-    let kind = Shown(l.kind);
+    let Line { node, kind } = l;
+    let (at, parent, name, depth) = (node.at.0, node.parent.0, node.name.0, node.depth);
+    let kind = Shown(kind);
     println!(rt; "  ref {at}, parent {parent}, name {name}, depth {depth}, {kind}")
 }
 
 // The answer, and the whole row after it.
-fn show_row(rt: &impl Print, listed: Listed, row: [Line; 4]) -> io::Result<()> {
+fn show_row(rt: &impl Print, listed: Listed<()>, row: [Line; 4]) -> io::Result<()> {
     let answer = Answer::of(&listed.outcome);
     let count = listed.count;
     println!(rt; ": {answer}, count {count}")?;

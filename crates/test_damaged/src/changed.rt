@@ -25,14 +25,6 @@ fn zeros() -> [u8; 1048592]
     [0; 1048592]
 }
 
-// What is wrong with the first `len` bytes.
-fn show_front(rt: &impl Print, text: &str, image: &[u8], len: usize) -> io::Result<()> {
-    if len <= image.len() {
-        println!(rt; "{text}: {}", check(&image[..len]))?;
-    }
-    Ok(())
-}
-
 // One change; there is none outside the image.
 fn put(image: &mut [u8], index: usize, word: u64) {
     if index < image.len() / 8 {
@@ -47,7 +39,7 @@ fn change(image: &mut [u8], changes: &[Change]) {
     }
 }
 
-// The line of an image of `len` bytes: the words, and rows of changes one after the other.
+// The line of an image of `len` bytes: the words, and rows of changes one after the other. A longer one has none.
 fn show_changed(
     rt: &impl Print,
     text: &str,
@@ -60,7 +52,10 @@ fn show_changed(
     for row in rows {
         change(&mut image, row);
     }
-    show_front(rt, text, &image, len)
+    let Some(front) = image.get(..len) else {
+        return Ok(());
+    };
+    println!(rt; "{text}: {}", check(front))
 }
 
 // The line of an image of `len` bytes.

@@ -23,8 +23,9 @@ use Rattle.tree.proofs.Visits.{Visits, visits_start, visits_on, visits_end, obje
 use Rattle.alloc.proofs.Marking.{marks_of_long}
 use Rattle.tree.specs.Verdict.{Verdict, BlockRule, rule3, rule4, rule5, rule6, rule7, keeps, breaker_of, unbroken, block_rules, verdict_on, verdict, well_formed, marks_after}
 use Rattle.tree.specs.Answers.{Ready, ObjectAt, KeepsAll, NoneBroken}
+use Rattle.alloc.specs.declared.access.Block as handle
 use Rattle.tree.specs.Fields.{slots}
-use Rattle.tree.specs.Rules.{slots_stand, named_once}
+use Rattle.tree.specs.Rules.{slots_stand, named_once, names_stand, file_stands}
 use Rattle.tree.specs.Marks.{noted, Noted, Fresh, Countable, Annotated, Judges, Decides, trimmed}
 use Rattle.tree.proofs.Noting.{noted_tells, noted-annotated, rule_4_at}
 use Rattle.tree.proofs.Judging.{judged_tiling, judged_after, blocks-kept}
@@ -94,12 +95,10 @@ module _ {s m' : List ℕ} (m : List ℕ) (t : Tiled s) (h : length s / 16 ≤ l
 
 -- ---- the marks at the end
 
--- the same front, and what stood behind it
-splice-front-same : (m m' x : List ℕ) (n : ℕ) → length x ≡ n → drop n m' ≡ drop n m → splice m' 0 x ≡ splice m 0 x
+-- a new front, and what stood behind it
+splice-front : (m x : List ℕ) (n : ℕ) → length x ≡ n → splice m 0 x ≡ x ++ drop n m
 unfolding splice
-splice-front-same m m' x n l e =
-    let z : 0 + length x ≡ n = zero-add (length x) ∙ l in
-    ap (λ (k : ℕ). x ++ drop k m') z ∙ ap (λ (y : List ℕ). x ++ y) e ∙ sym (ap (λ (k : ℕ). x ++ drop k m) z)
+splice-front m x n l = ap (λ (k : ℕ). x ++ drop k m) (zero-add (length x) ∙ l)
 
 marked-trimmed : {s m : List ℕ} → Marked s m → trimmed (take (length s / 16) m) ≡ marks_of s
 marked-trimmed {s} {m} w =
@@ -124,18 +123,21 @@ module _ {s m m' : List ℕ} {v : Verdict} (d : Decides s m v m') where
   pub judges_broken : {m'' : List ℕ} → (v.rule ≡ 0 → ⊥) → m'' ≡ splice m' 0 (zeroed (length s / 16)) → Judges s m v m''
   judges_broken n e = record {
     verdict-is = d.verdict-is;
-    marks_are = e ∙ splice-front-same m m' (zeroed (length s / 16)) (length s / 16) (length-replicate (length s / 16) 0) d.beyond ∙ sym (ap (splice m 0) (after-broken n));
+    marks_are =
+        let u : List ℕ = zeroed (length s / 16) in
+        e ∙ splice-front m' u _ (length-replicate (length s / 16) 0) ∙ ap (λ y. u ++ y) d.beyond ∙ sym
+        (ap (splice m 0) (after-broken n) ∙ splice-front m u _ (length-replicate (length s / 16) 0));
   }
 
-  pub judges_kept : {m'' : List ℕ} {k : ℕ} → v.rule ≡ 0 → k ≡ length s / 16 → m'' ≡ splice m' 0 (trimmed (take k m')) → Judges s m v m''
-  judges_kept n u e =
+  pub judges_kept : {m'' : List ℕ} {k : ℕ} → v.rule ≡ 0 → k ≡ length s / 16 → m'' ≡ trimmed (take k m') → Judges s m v (m'' ++ drop k m')
+  judges_kept {k = k} n u e =
       let w = d.kinds_are n in
       record {
         verdict-is = d.verdict-is;
         marks_are =
-            e ∙ ap (splice m' 0) (ap (λ (k : ℕ). trimmed (take k m')) u ∙ marked-trimmed w)
-            ∙ splice-front-same m m' (marks_of s) (length s / 16) (marks_of_long w.tiled) d.beyond ∙ sym
-            (ap (splice m 0) (after_kept n));
+            ap (λ y. y ++ drop k m') e ∙ ap (λ k. trimmed (take k m') ++ drop k m') u
+            ∙ ap (λ y. y ++ drop (length s / 16) m') (marked-trimmed w) ∙ ap (λ y. marks_of s ++ y) d.beyond ∙ sym
+            (ap (splice m 0) (after_kept n) ∙ splice-front m (marks_of s) _ (marks_of_long w.tiled));
       }
 
 -- ---- rule 1, then the others
@@ -188,6 +190,14 @@ ready-naming {root = root} k o = rule_4_at k.noted-there o root
 pub naming_told : {s m : List ℕ} {root r : ℕ} {t : Bool} → Ready s m root → ObjectAt s r → t ≡ eqb (get_or m r 0 / 8) (cond (eqb r root) 0 1)
     → t ≡ named_once (objects (volume_of s)) root r (block_of s r)
 naming_told k o e = e ∙ ready-naming k o
+
+-- rules 6 and 7, of a block of the image
+module _ {s : List ℕ} (b : handle.Block) (e : b.image.now ≡ s) {t : Bool} where
+  pub names_told : t ≡ names_stand (objects (volume_of b.image.now)) b.at.0 (block_of b.image.now b.at.0) → t ≡ names_stand (objects (volume_of s)) b.at.0 (block_of s b.at.0)
+  names_told f = f ∙ ap (λ (x : List ℕ). names_stand (objects (volume_of x)) b.at.0 (block_of x b.at.0)) e
+
+  pub file_told : t ≡ file_stands b.at.0 (block_of b.image.now b.at.0) → t ≡ file_stands b.at.0 (block_of s b.at.0)
+  file_told f = f ∙ ap (λ (x : List ℕ). file_stands b.at.0 (block_of x b.at.0)) e
 
 pub ready_slots : {s m : List ℕ} {root r : ℕ} → Ready s m root → ObjectAt s r → slots_stand (objects (volume_of s)) (slots (block_of s r)) ≡ true
 ready_slots {s} {root = root} k o = object_holds (keeps rule3 (objects (volume_of s)) root) o k.rule_3

@@ -6,7 +6,7 @@ use Rattle.alloc.specs.Block.{Block}
 use Rattle.alloc.specs.Volume.{Objects, volume_of, objects, block_at}
 use Rattle.alloc.specs.Marks.{Marked}
 use Rattle.tree.specs.Fields.{is_dir, parent, Slot, slots, taken}
-use Rattle.tree.specs.Rules.{named_once, root_stands}
+use Rattle.tree.specs.Rules.{named_once}
 use Rattle.tree.specs.Verdict.{Verdict, rule3, breaker_of, verdict, marks_after}
 
 -- a mark after one naming more: 8 above the kind where one slot names the object, and rightly; 16 where more do, or one wrongly
@@ -65,14 +65,6 @@ pub record Slotted (s : List ℕ) (o : Option ℕ) (m m' : List ℕ) : Type 0 wh
   pub breaker : o ≡ breaker_of rule3 (objects (volume_of s)) 0
   pub counted_all : o ≡ none → m' ≡ noted (objects (volume_of s)) m
   pub annotated : Annotated s m m'
-
--- rules 2 and 3 hold, and the namings are counted
-pub record Later (s m : List ℕ) (root : ℕ) : Type 0 where
-  pub marked : Marked s m
-  pub noted-there : Noted s m
-  pub rule_3 : breaker_of rule3 (objects (volume_of s)) root ≡ none
-  pub root_is : root ≡ (volume_of s).root
-  pub rule_2 : root_stands (objects (volume_of s)) root ≡ true
 
 -- the verdict, and the marks then
 pub record Judges (s m : List ℕ) (v : Verdict) (m' : List ℕ) : Type 0 where

@@ -1,33 +1,33 @@
 // The verdict on an image: the lowest-numbered broken rule, and the first block in storage order that breaks it.
 
-ghost use Rattle.std.specs.Prelude.{◌≡◌, ℕ, ◌*◌, ◌/◌, ◌≤◌, ◌<◌, length, take, true, Bool};
-ghost use Rattle.storage.specs.Bytes.{splice};
-ghost use Rattle.alloc.specs.Block.{Block};
-ghost use Rattle.alloc.specs.Sound.{Tiled};
+ghost use Rattle.std.specs.Prelude.{◌≡◌, ℕ, ◌*◌, ◌/◌, ◌≤◌, length, true, Bool};
+ghost use Rattle.alloc.specs.Block as model;
 ghost use Rattle.alloc.specs.Volume.{volume_of, objects, chained};
-ghost use Rattle.tree.specs.Marks.{Later, Slotted, Annotated, Fresh, Judges, Decides, trimmed};
+ghost use Rattle.tree.specs.Marks.{Slotted, Annotated, Fresh, Judges, Decides, trimmed};
 ghost use Rattle.tree.specs.Rules.{root_stands};
 ghost use Rattle.tree.specs.Verdict.{breaker, or_else, unless, unbroken, block_rules, verdict_on, verdict};
 ghost use Rattle.tree.specs.Answers.{rule_number, place_of, verdict_of, Ready, ObjectAt, Asks, Computes, KeepsAll, NoneBroken};
 
 use crate::fields;
+use alloc::access::Block;
 use alloc::block::Kind;
 use alloc::chain::Scan;
+use alloc::marks;
 use alloc::marks::Marks;
-use alloc::{block, marks};
+use alloc::tiled::Tiled;
 use storage::Ref;
 
 // A rule of the definition.
 #[derive(Clone, Copy, PartialEq, Eq)]
 pub enum Rule {
-    Tiling,
-    Root,
-    Slots,
-    Naming,
-    Depth,
-    Names,
-    Files,
-    Chain,
+    Tiling = 1,
+    Root = 2,
+    Slots = 3,
+    Naming = 4,
+    Depth = 5,
+    Names = 6,
+    Files = 7,
+    Chain = 8,
 }
 
 impl Rule {
@@ -35,21 +35,12 @@ impl Rule {
     pub fn number(self) -> u8
         ensures { result ≡ rule_number self }
     {
-        match self {
-            Rule::Tiling => 1,
-            Rule::Root => 2,
-            Rule::Slots => 3,
-            Rule::Naming => 4,
-            Rule::Depth => 5,
-            Rule::Names => 6,
-            Rule::Files => 7,
-            Rule::Chain => 8,
-        }
+        self as u8
     }
 }
 
 // A broken rule, and the first block that breaks it: 0 for a wrong length and for the rules of the whole image.
-#[derive(Clone, Copy)]
+#[derive(Clone, Copy, PartialEq, Eq)]
 pub struct Breach {
     pub rule: Rule,
     pub place: Ref,
@@ -79,94 +70,107 @@ fn unless(holds: bool) -> Option<Ref>
 fn root_stands(marks: Marks, root: Ref) -> bool
     ensures { result ≡ root_stands (objects (volume_of marks.entry.image.now)) root.0 }
 {
-    marks.is(root, Kind::Directory) && fields::parent_of(marks.image, root) == root
+    fields::parent_of(marks, root) == Some(root)
 }
 
 // The first block that fails a test. Free blocks fail none.
-fn first_breaker<F: Fn(Ref) -> bool>(image: &[u8], keeps: F) -> Option<Ref>
-    requires tiled { Tiled image.now }
-    requires tested { Asks (F.pre keeps) image.now }
-    ensures { (p : ℕ → Block → Bool) → Computes (F.post keeps) image.now p → place_of result ≡ breaker p (objects (volume_of image.now)) }
+fn first_breaker<F: Fn(Block) -> bool>(tiled: Tiled, keeps: F) -> Option<Ref>
+    requires { Asks (F.pre keeps) tiled.image.now }
+    ensures { (p : ℕ → model.Block → Bool) → Computes (F.post keeps) tiled.entry.image.now p → place_of result ≡ breaker p (objects (volume_of tiled.entry.image.now)) }
 {
-    for r in block::after_superblock(image) {
-        if !block::is(image, r, Kind::Free) && !keeps(r) {
-            return Some(r);
+    for block in tiled.blocks() {
+        if !block.is(Kind::Free) && !keeps(block) {
+            return Some(block.at);
         }
     }
     None
 }
 
-// Whether the object at `r` keeps rules 4 to 7.
-fn keeps_all(marks: Marks, root: Ref, r: Ref) -> bool
-    requires { Ready marks.image.now marks.row.now root.0 × ObjectAt marks.image.now r.0 }
-    ensures { result ≡ true → KeepsAll marks.entry.image.now root.0 r.0 }
-{
-    if !crate::naming::keeps(marks.row, root, r) {
-        return false;
-    }
-    if block::is(marks.image, r, Kind::Name) {
-        return crate::names::valid(marks.image, r);
-    }
-    if block::is(marks.image, r, Kind::File) {
-        return crate::files::keeps(marks.image, r);
-    }
-    if !crate::depth::keeps(marks, root, r) {
-        return false;
-    }
-    crate::names::keeps(marks.image, r)
+// Marks with the namings counted, of an image that keeps rules 1 to 3.
+#[derive(Clone, Copy)]
+struct Counted<'a> {
+    marks: Marks<'a>,
+    root: Ref,
+    ghost ready: { Ready marks.image.now marks.row.now root.0 },
 }
 
-// Whether every object does, and the free chain keeps rule 8, in one walk.
-fn none_broken(marks: Marks, root: Ref) -> bool
-    requires { Ready marks.image.now marks.row.now root.0 }
-    ensures { result ≡ true → NoneBroken marks.entry.image.now root.0 × (chained marks.entry.image.now ≡ true) }
-{
-    let mut scan = Scan::start(marks.image);
-    for r in block::after_superblock(marks.image) {
-        if !scan.pass(marks.image, r) {
+impl Counted<'_> {
+    // Whether an object of the image keeps rules 4 to 7.
+    fn keeps_all(self, block: Block) -> bool
+        requires { (block.image.now ≡ self.marks.image.now) × ObjectAt block.image.now block.at.0 }
+        ensures { result ≡ true → KeepsAll self.entry.marks.image.now self.entry.root.0 block.entry.at.0 }
+    {
+        if !crate::naming::keeps(self.marks.row, self.root, block.at) {
             return false;
         }
-        if !block::is(marks.image, r, Kind::Free) && !keeps_all(marks, root, r) {
+        if block.is(Kind::Name) {
+            return crate::names::valid(block);
+        }
+        if block.is(Kind::File) {
+            return crate::files::keeps(block);
+        }
+        if !crate::depth::keeps(self.marks, self.root, block.at) {
             return false;
         }
+        crate::names::keeps(block)
     }
-    scan.ends()
-}
 
-// Rules 4 to 7, in their order, where rule 3 holds and the namings are counted.
-fn later_broken(marks: Marks, root: Ref) -> Verdict
-    requires { Ready marks.image.now marks.row.now root.0 }
-    ensures { verdict_of result ≡ block_rules (objects (volume_of marks.entry.image.now)) root.0 unbroken }
-{
-    kept(
-        Rule::Naming,
-        first_breaker(marks.image, |r| crate::naming::keeps(marks.row, root, r)),
-    )?;
-    kept(
-        Rule::Depth,
-        first_breaker(marks.image, |r| crate::depth::keeps(marks, root, r)),
-    )?;
-    kept(
-        Rule::Names,
-        first_breaker(marks.image, |r| crate::names::keeps(marks.image, r)),
-    )?;
-    kept(
-        Rule::Files,
-        first_breaker(marks.image, |r| crate::files::keeps(marks.image, r)),
-    )
+    // Whether every object does, and the free chain keeps rule 8, in one walk.
+    fn none_broken(self) -> bool
+        ensures { result ≡ true → NoneBroken self.entry.marks.image.now self.entry.root.0 × (chained self.entry.marks.image.now ≡ true) }
+    {
+        let tiled = Tiled {
+            image: self.marks.image,
+        };
+        let mut scan = Scan::start(tiled);
+        for block in tiled.blocks() {
+            if !scan.pass(block) {
+                return false;
+            }
+            if !block.is(Kind::Free) && !self.keeps_all(block) {
+                return false;
+            }
+        }
+        scan.ends()
+    }
+
+    // Rules 4 to 7, in their order.
+    fn later_broken(self) -> Verdict
+        ensures { verdict_of result ≡ block_rules (objects (volume_of self.entry.marks.image.now)) self.entry.root.0 unbroken }
+    {
+        let tiled = Tiled {
+            image: self.marks.image,
+        };
+        kept(
+            Rule::Naming,
+            first_breaker(
+                tiled,
+                |b| crate::naming::keeps(self.marks.row, self.root, b.at),
+            ),
+        )?;
+        kept(
+            Rule::Depth,
+            first_breaker(tiled, |b| crate::depth::keeps(self.marks, self.root, b.at)),
+        )?;
+        kept(Rule::Names, first_breaker(tiled, crate::names::keeps))?;
+        kept(Rule::Files, first_breaker(tiled, crate::files::keeps))
+    }
 }
 
 // Rules 4 to 8: one walk where they hold, or else rule by rule.
 fn later_rules(image: &[u8], marks: &[u8], root: Ref) -> Verdict
-    requires { Later image.now marks.now root.0 }
+    requires { Ready image.now marks.now root.0 }
     ensures { verdict_of result ≡ verdict_on (objects (volume_of image.now)) (volume_of image.now).root (chained image.now) }
 {
-    let marks = Marks { image, row: marks };
-    if none_broken(marks, root) {
+    let counted = Counted {
+        marks: Marks { image, row: marks },
+        root,
+    };
+    if counted.none_broken() {
         return Ok(());
     }
-    later_broken(marks, root)?;
-    kept(Rule::Chain, unless(alloc::chain::check(image)))
+    counted.later_broken()?;
+    kept(Rule::Chain, unless(Tiled { image }.chained()))
 }
 
 // Rule 3, block after block. What the slots of a block name is counted where they stand.
@@ -174,11 +178,12 @@ fn first_unslotted(image: &[u8], marks: &mut [u8]) -> Option<Ref>
     requires { Fresh image.now marks.old }
     ensures { Slotted image.now (place_of result) marks.old marks.new }
 {
-    for d in block::after_superblock(image) {
-        if !crate::slots::keeps(Marks { image, row: marks }, d) {
-            return Some(d);
+    let tiled = Tiled { image };
+    for block in tiled.blocks() {
+        if !crate::slots::keeps(Marks { image, row: marks }, block.at) {
+            return Some(block.at);
         }
-        crate::naming::note_block(image, marks, d);
+        crate::naming::note_block(block, marks);
     }
     None
 }
@@ -189,7 +194,7 @@ fn after_tiling(image: &[u8], marks: &mut [u8]) -> Verdict
     ensures is { verdict_of result ≡ verdict_on (objects (volume_of image.now)) (volume_of image.now).root (chained image.now) }
     ensures marks { Annotated image.now marks.old marks.new }
 {
-    let root = alloc::chain::root(image);
+    let root = Tiled { image }.root();
     kept(
         Rule::Root,
         unless(root_stands(Marks { image, row: marks }, root)),
@@ -209,12 +214,11 @@ fn decide(image: &[u8], marks: &mut [u8]) -> Verdict
     }
 }
 
-// The first `n` marks without what was counted in them.
-fn trim(marks: &mut [u8], n: usize)
-    requires { n ≤ length marks.old }
-    ensures { marks.new ≡ splice marks.old 0 (trimmed (take n marks.old)) }
+// The marks without what was counted in them.
+fn trim(marks: &mut [u8])
+    ensures { marks.new ≡ trimmed marks.old }
 {
-    for mark in marks[..n].iter_mut() {
+    for mark in marks.iter_mut() {
         *mark %= 8;
     }
 }
@@ -229,7 +233,7 @@ pub fn judge_marked(image: &[u8], marks: &mut [u8]) -> Verdict
         marks::clear(image, marks);
         return Err(breach);
     }
-    trim(marks, storage::units_of(image.len()) as usize);
+    trim(&mut marks[..storage::units_of(image.len()) as usize]);
     Ok(())
 }
 

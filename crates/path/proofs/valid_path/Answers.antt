@@ -1,12 +1,10 @@
 -- valid_path: the first byte, how many components there are, and each of them.
-use Rattle.std.proofs.Common.{rules, tests, arith, ◌∙◌, sym, ap, nat_eq}
+use Rattle.std.proofs.Common.{rules, tests, arith, ◌∙◌, sym, ap}
 use borrow.Author.Tests.{lt-ltb}
 use Rattle.std.proofs.lemmas.Iterator.Search.{all_from_yields_List}
-use Rattle.std.proofs.lemmas.Iterator.Splits.{YieldsList-from_slice_split}
-use Rattle.std.specs.List.{list_all}
 use Rattle.path.specs.Name.{valid_name}
 use Rattle.path.specs.Path.{all_valid}
-use Rattle.path.proofs.Parts.{components_none, parts-behind}
+use Rattle.path.proofs.Parts.{components_none, splits_components}
 use Rattle.path.proofs.Valid.{path_empty, path-other, path-long, path_names, all-names}
 use Rattle.path.proofs.valid_path.Goals as goal
 
@@ -28,8 +26,7 @@ returns-then-path-lt2 c =
 pub returns-else-path-lt2 : goal.returns-else-path-lt2
 returns-else-path-lt2 c =
     all_from_yields_List valid_name _ _ _ c.all.ensures.ran
-    (YieldsList-from_slice_split _ (λ b. nat_eq b 0x2f) _ c.split.ensures.rest c.split.ensures.done c.split.ensures.closure (λ x b q k. search (rules, tests)))
+    (splits_components _ (omega arith) c.split.ensures.rest c.split.ensures.done c.split.ensures.closure (λ x b q k. search (rules, tests)))
     (λ x b q k. search (rules, tests))
-    ∙ ap (list_all valid_name) (parts-behind _ (omega arith))
     ∙ all-names _
     ∙ sym (path_names _ (omega arith) c.if-path-ne47.false (omega arith))

@@ -1,15 +1,9 @@
 -- write_ref: a store into the object.
-use Rattle.alloc.proofs.Held.{holds_fits, update_done}
+use Rattle.alloc.proofs.Held.{update_done}
 use Rattle.storage.proofs.Numbers.{length-be64}
 use Rattle.storage.specs.Bytes.{be64}
 use native.Mathlib.Omega.{arith}
 use Rattle.alloc.proofs.access.write_ref.Goals as goal
-
-pub data_start-requires : goal.data_start-requires
-data_start-requires c = omega (arith, holds_fits c.requires.0, c.requires.1)
-
-pub write_ref-requires : goal.write_ref-requires
-write_ref-requires c = omega (arith, holds_fits c.requires.0, c.requires.1, c.data_start.ensures)
 
 pub returns : goal.returns
 returns c = update_done c.requires.0 _ (be64 c.args.n.0) (omega (arith, c.requires.1, length-be64 c.args.n.0)) c.data_start.ensures c.write_ref.ensures

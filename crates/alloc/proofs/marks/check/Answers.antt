@@ -44,12 +44,8 @@ bounds-marks-n c =
       c.requires,
     )
 
-pub after-r-requires : goal.after-r-requires
-after-r-requires c =
-    omega (
-      arith,
-      tiles_fits c.loop-at.invariant.tiles (omega arith) _ (sym c.in-Some.ensures.0) refl,
-    )
+pub invariant_of-after : goal.invariant_of-after
+invariant_of-after c = record { inside = omega (arith, tiles_fits c.loop-at.invariant.tiles (omega arith) _ (sym c.in-Some.ensures.0) refl) }
 
 pub start-at-requires-in-loop-at : goal.start-at-requires-in-loop-at
 start-at-requires-in-loop-at c =

@@ -3,9 +3,6 @@ use Rattle.alloc.proofs.Choosing.{chooses_tightest}
 use Rattle.alloc.proofs.Pairs.{two_none, after_first, two_never, two_done}
 use Rattle.alloc.proofs.pair.both.Goals as goal
 
-pub block-requires : goal.block-requires
-block-requires c = (c.requires.sound, c.requires.object)
-
 pub returns-in_err-first : goal.returns-in_err-first
 returns-in_err-first c = rw c.from_residual.ensures (two_none chooses_tightest c.requires c.in_err-first.ensures)
 

@@ -6,7 +6,7 @@ use Rattle.alloc.proofs.pair.largest_free.Goals as goal
 pub loop-gap-init : goal.loop-gap-init
 loop-gap-init c =
     let w = gaps_start c.gaps-gap-items.ensures c.into_iter-gap-iterator.ensures.into_iter_gives in
-    record { walk = w.0; scans = scans_start c.requires w.2.reads }
+    record { walk = w.0; scans = scans_start c.args.sound.sound w.2.reads }
 
 pub loop-gap-preserved : goal.loop-gap-preserved
 loop-gap-preserved c =

@@ -5,6 +5,6 @@ use Rattle.alloc.proofs.pair.largest_free.Given as goal
 
 abbrev pub invariant-loop-gap : goal.invariant-loop-gap
 invariant-loop-gap l = record {
-  walk : OnGaps l.image l.gap-iterator;
-  scans : Scans l.image l.found.first l.found.second l.gap-iterator.at.0;
+  walk : OnGaps l.sound.image.now l.gap-iterator;
+  scans : Scans l.sound.image.now l.found.first l.found.second l.gap-iterator.at.0;
 }

@@ -3,9 +3,6 @@ use Rattle.alloc.proofs.Choosing.{chooses_tightest}
 use Rattle.alloc.proofs.Pairs.{pair_refused, larger_fits, name-fits, larger_done, name_done}
 use Rattle.alloc.proofs.pair.place.Goals as goal
 
-pub fits-requires : goal.fits-requires
-fits-requires c = c.requires.0
-
 pub returns-then-not-fits : goal.returns-then-not-fits
 returns-then-not-fits c = pair_refused chooses_tightest c.fits.ensures c.units_for-a.ensures c.units_for-b.ensures
     c.if-not-fits.true

@@ -18,13 +18,6 @@ write_ref-requires-else-units-need c = omega (arith, carve-room c.requires)
 pub write_blank-requires-else-units-need : goal.write_blank-requires-else-units-need
 write_blank-requires-else-units-need c = omega (arith, carve-room c.requires)
 
-pub overflow_sub-units : goal.overflow_sub-units
-overflow_sub-units c = omega (
-  arith,
-  carve-room c.requires,
-  c.units_for-need.ensures,
-)
-
 pub write_free-requires : goal.write_free-requires
 write_free-requires c = omega (
   arith,

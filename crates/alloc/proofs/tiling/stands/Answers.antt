@@ -32,16 +32,16 @@ returns-in_err-kind c =
 
 pub returns-then-not-kind_allowed : goal.returns-then-not-kind_allowed
 returns-then-not-kind_allowed c =
-    sym (judged_kind _ _ _ _ c.requires (sym c.in_ok-kind.ensures) c.size_at-size.ensures _ c.kind_allowed.ensures c.if-not-kind_allowed.true)
+    sym (judged_kind _ _ _ _ c.requires (sym c.in_ok-kind.ensures) c.size-size.ensures _ c.kind_allowed.ensures c.if-not-kind_allowed.true)
 
 pub returns-then-left-long : goal.returns-then-left-long
 returns-then-left-long c =
-    sym (judged_over _ _ _ c.requires c.size_at-size.ensures (omega arith))
+    sym (judged_over _ _ _ c.requires c.size-size.ensures (omega arith))
 
 pub returns-then-not-all_zero : goal.returns-then-not-all_zero
 returns-then-not-all_zero c =
     sym (judged_padding _ _ _ _ c.requires
-    (sym c.in_ok-kind.ensures) c.size_at-size.ensures _ _
+    (sym c.in_ok-kind.ensures) c.size-size.ensures _ _
     c.plus.result.0 c.plus-2.result.0 c.kind_allowed.ensures
     c.if-not-kind_allowed.false (omega arith)
     (omega (arith, c.start-at.ensures, c.plus.ensures))
@@ -50,7 +50,7 @@ returns-then-not-all_zero c =
 pub returns : goal.returns
 returns c = (
   sym (judged_padding _ _ _ _ c.requires
-      (sym c.in_ok-kind.ensures) c.size_at-size.ensures _ _
+      (sym c.in_ok-kind.ensures) c.size-size.ensures _ _
       c.plus.result.0 c.plus-2.result.0 c.kind_allowed.ensures
       c.if-not-kind_allowed.false (omega arith)
       (omega (arith, c.start-at.ensures, c.plus.ensures))

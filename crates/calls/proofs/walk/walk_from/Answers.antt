@@ -2,19 +2,19 @@
 use Rattle.calls.proofs.Steps.{walking_start, walking_on, walking_out, walking_end}
 use Rattle.calls.proofs.Told.{err_is}
 use Rattle.calls.specs.declared.refusal.Refusal.TheVariants as Refusal
-use Rattle.tree.proofs.Formed.{formed-tiled}
+use Prim.Native.Nat.{ℕ}
+use mathlib.Core.List.{List}
+use mathlib.Core.Path.{◌∙◌, ap}
+use Rattle.alloc.specs.Volume.{volume_of}
 use native.Mathlib.Omega.{arith}
 use Rattle.calls.proofs.walk.walk_from.Goals as goal
 
-pub root-at-requires : goal.root-at-requires
-root-at-requires c = formed-tiled _ (λ i. (c.type_inv.image i).fits) c.requires
-
 pub loop-i-init : goal.loop-i-init
-loop-i-init c = walking_start (λ i. (c.type_inv.image i).fits) c.requires _ _ c.root-at.ensures
+loop-i-init c = walking_start c.args.formed.bytes c.args.formed.formed _ _ (c.root-at.ensures ∙ ap (λ (s : List ℕ). (volume_of s).root) c.tiled.ensures)
 
 pub loop-i-preserved : goal.loop-i-preserved
 loop-i-preserved c =
-    walking_on c.loop-i.invariant (λ i. (c.type_inv.image i).fits) (omega (arith, c.count-i-end.ensures)) c.component.ensures _ c.in_ok-at.ensures
+    walking_on c.loop-i.invariant c.args.formed.bytes (omega (arith, c.count-i-end.ensures)) c.component.ensures _ c.in_ok-at.ensures
 
 pub returns-in_err-at : goal.returns-in_err-at
 returns-in_err-at c =

@@ -7,41 +7,16 @@ use mathlib.Core.Path.{ap, sym, subst}
 use Rattle.changes.proofs.format.fresh.Goals as goal
 
 pub block-placed-requires : goal.block-placed-requires
-block-placed-requires c =
-    let d = c.directory_size.ensures in (
-      new_sound c.requires.0 c.requires.1
-          c.requires.2 c.requires.3
-          c.empty.ensures d,
-      subst (Object SFde) (sym d)
-          (directory-object _ c.requires.1 c.requires.2),
-    )
+block-placed-requires c = (
+  new_sound c.requires c.empty.ensures c.directory_size.ensures,
+  subst (Object SFde) (sym c.directory_size.ensures) (directory-object _ c.requires.least c.requires.most),
+)
 
 pub returns-in_default : goal.returns-in_default
-returns-in_default c =
-    absurd (root-fits c.requires.0
-    c.requires.1
-    c.requires.2
-    c.requires.3
-    c.empty.ensures c.directory_size.ensures
-    c.block-placed.ensures (ap placed_at c.in_default.is))
+returns-in_default c = absurd (root-fits c.requires c.empty.ensures c.directory_size.ensures c.block-placed.ensures (ap placed_at c.in_default.is))
 
 pub write_ref-requires : goal.write_ref-requires
-write_ref-requires c =
-    root_store c.requires.0
-    c.requires.1
-    c.requires.2
-    c.requires.3
-    c.empty.ensures
-    c.directory_size.ensures c.block-placed.ensures
-    (ap placed_at c.in-Some.is)
+write_ref-requires c = root_store c.requires c.empty.ensures c.directory_size.ensures c.block-placed.ensures (ap placed_at c.in-Some.is)
 
 pub returns : goal.returns
-returns c =
-    root-done c.requires.0
-    c.requires.1
-    c.requires.2
-    c.requires.3
-    c.empty.ensures
-    c.directory_size.ensures
-    c.block-placed.ensures (ap placed_at c.in-Some.is)
-    c.write_ref.ensures
+returns c = root-done c.requires c.empty.ensures c.directory_size.ensures c.block-placed.ensures (ap placed_at c.in-Some.is) c.write_ref.ensures

@@ -8,12 +8,15 @@ use Rattle.changes.proofs.make.make.Goals as goal
 
 pub returns-in_err-d : goal.returns-in_err-d
 returns-in_err-d c =
-    rw (err_is _ c.in_err-d.field-0.0 c.from_residual.ensures.1) (make-refused _ _ (new_of c.args.new) c.allowed.ensures _ c.in_err-d.ensures)
+    rw (err_is _ c.in_err-d.field-0.0 c.from_residual.ensures.1) (make-refused _ _ (new_of c.args.new) c.is_allowed.ensures _ c.in_err-d.ensures)
+
+pub invariant_of-make_in : goal.invariant_of-make_in
+invariant_of-make_in c = record { allowed = sym c.is_allowed.ensures ∙ (reached-above _ _ _ _ _ c.in_ok-d.ensures).0 }
 
 pub make_in-requires : goal.make_in-requires
 make_in-requires c =
-    let x = reached-above _ _ _ _ _ c.in_ok-d.ensures in
-    (x.1.directory, last_named _ _ x.1.valid x.1.some_name c.last_name.ensures, sym c.allowed.ensures ∙ x.0)
+    let x = (reached-above _ _ _ _ _ c.in_ok-d.ensures).1 in
+    (x.directory, last_named _ _ x.valid x.some_name c.last_name.ensures)
 
 pub returns : goal.returns
-returns c = make-reached _ _ (new_of c.args.new) c.allowed.ensures _ c.in_ok-d.ensures _ c.last_name.ensures _ _ _ c.make_in.ensures
+returns c = make-reached _ _ (new_of c.args.new) c.is_allowed.ensures _ c.in_ok-d.ensures _ c.last_name.ensures _ _ _ c.make_in.ensures

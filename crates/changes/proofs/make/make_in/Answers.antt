@@ -12,7 +12,7 @@ returns-in_default c = make_full _ _ _ _ (none_there c.with_name.result (sym c.i
 
 pub fill-requires : goal.fill-requires
 fill-requires c =
-    record { directory = c.requires.0; slot = (found-slot _ _ _ (sym c.in-Some.ensures)).0; name = c.requires.1; bounds = c.requires.2 }
+    record { directory = c.requires.0; slot = (found-slot _ _ _ (sym c.in-Some.ensures)).0; name = c.requires.1 }
 
 pub returns : goal.returns
 returns c = make-filled _ _ _ _ (none_there c.with_name.result (sym c.if-is_some.ensures) c.with_name.ensures) c.in-Some.ensures _ _ _ c.fill.ensures

@@ -1,46 +1,35 @@
 -- object and slots: slots have twice their object's levels as measure, an object one more; the loop passes a slot in each turn.
-use Rattle.listing.proofs.Held.{gone, gone_child}
+use Rattle.listing.proofs.Held.{deeper, slot-low, slot_few}
 use Rattle.listing.proofs.Seeking.{goes_own, passing_empty, passing_end, passing_found, passing_on}
-use mathlib.Core.Path.{◌∙◌, refl, sym}
+use mathlib.Core.Path.{◌∙◌, sym}
 use native.Mathlib.Omega.{arith}
 use Rattle.listing.proofs.seek.+object_slots.Goals as goal
-use Rattle.listing.proofs.seek.+object_slots.Goals.{slots-then-is_taken+else-is_some, slots-else-is_taken}
+use Rattle.listing.proofs.seek.+object_slots.Goals.{slots-in-Some+else-is_some, slots-in_default}
 
-pub object-returns : goal.object-returns
-object-returns t c = goes_own _ _ _ _ _ _ c.if-cursor-node-ne0.false c.place.ensures c.line_of.ensures
-
-pub slots-slot_at-slot-requires : goal.slots-slot_at-slot-requires
-slots-slot_at-slot-requires t c = (gone (λ i. (c.type_inv.image i).fits) c.requires.0 c.open_slots-i-end.ensures c.loop-i-test.true).read
-
-pub slots-child-requires : goal.slots-child-requires
-slots-child-requires t c = (gone (λ i. (c.type_inv.image i).fits) c.requires.0 c.open_slots-i-end.ensures c.loop-i-test.true).low
+pub object-returns-in-None : goal.object-returns-in-None
+object-returns-in-None t c = goes_own _ _ _ _ _ _ c.in-None.is c.place.ensures c.line.ensures
 
 pub slots-object-line-requires : goal.slots-object-line-requires
 slots-object-line-requires t c =
-    let g = gone (λ i. (c.type_inv.image i).fits) c.requires.0 c.open_slots-i-end.ensures c.loop-i-test.true in
-    let k = gone_child g c.slot_at-slot.ensures c.is_taken.ensures c.if-is_taken.true c.child.ensures in
-    (omega (arith, c.decreases, k.below), k.there)
+    omega (arith, deeper c.in-Some.ensures, slot-low c.args.visit.bytes c.args.visit.node c.args.visit.there c.loop-i.i (omega (arith, c.open_slots-i-end.ensures)))
 
 pub slots-returns-then-is_some : goal.slots-returns-then-is_some
 slots-returns-then-is_some t c =
-    let g = gone (λ i. (c.type_inv.image i).fits) c.requires.0 c.open_slots-i-end.ensures c.loop-i-test.true in
-    passing_found c.loop-i.invariant _ (gone_child g c.slot_at-slot.ensures c.is_taken.ensures c.if-is_taken.true c.child.ensures)
-    c.object-line.ensures (sym c.is_some.ensures ∙ c.if-is_some.true)
+    passing_found c.loop-i.invariant (omega (arith, c.open_slots-i-end.ensures)) _ c.in-Some.ensures c.object-line.ensures (sym c.is_some.ensures ∙ c.if-is_some.true)
 
 pub slots-overflow_add-i : goal.slots-overflow_add-i
-slots-overflow_add-i t c = omega (arith, (gone (λ i. (c.type_inv.image i).fits) c.requires.0 c.open_slots-i-end.ensures c.loop-i-test.true).few)
+slots-overflow_add-i t c = omega (arith, slot_few c.args.visit.bytes c.args.visit.node c.args.visit.there c.loop-i.i (omega (arith, c.open_slots-i-end.ensures)))
 
 pub slots-overflow_cast-i : goal.slots-overflow_cast-i
-slots-overflow_cast-i t c = omega (arith, (gone (λ i. (c.type_inv.image i).fits) c.requires.0 c.open_slots-i-end.ensures c.loop-i-test.true).few)
+slots-overflow_cast-i t c = omega (arith, slot_few c.args.visit.bytes c.args.visit.node c.args.visit.there c.loop-i.i (omega (arith, c.open_slots-i-end.ensures)))
 
 pub slots-loop-i-preserved : goal.slots-loop-i-preserved
 slots-loop-i-preserved t c =
-    let g = gone (λ i. (c.type_inv.image i).fits) c.requires.0 c.open_slots-i-end.ensures c.loop-i-test.true in
-    elim c.if-is_taken.branch [
-      | slots-then-is_taken+else-is_some w ↦
-          passing_on c.loop-i.invariant refl c.place.ensures w.cursor-is (gone_child g c.slot_at-slot.ensures c.is_taken.ensures w.if-is_taken.true w.child.ensures) _
-          w.object-line.ensures (sym w.is_some.ensures ∙ w.if-is_some.false)
-      | slots-else-is_taken w ↦ passing_empty c.loop-i.invariant refl c.place.ensures w.cursor-is g c.slot_at-slot.ensures c.is_taken.ensures w.if-is_taken.false
+    let w = c.loop-i.invariant in
+    elim c.match-child.branch [
+      | slots-in-Some+else-is_some v ↦
+          passing_on w c.place.ensures (omega (arith, c.open_slots-i-end.ensures)) v.cursor-is v.in-Some.ensures _ v.object-line.ensures (sym v.is_some.ensures ∙ v.if-is_some.false)
+      | slots-in_default v ↦ passing_empty w c.place.ensures (omega (arith, c.open_slots-i-end.ensures)) v.cursor-is v.in_default.ensures
     ]
 
 pub slots-returns : goal.slots-returns

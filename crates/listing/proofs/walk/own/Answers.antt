@@ -7,4 +7,4 @@ pub returns-then-numbers-i : goal.returns-then-numbers-i
 returns-then-numbers-i c = stores_past _ _ _ _ (omega arith)
 
 pub returns : goal.returns
-returns c = stores_line _ _ _ (omega arith) (omega arith) c.line_of.ensures c.put.ensures
+returns c = stores_line _ _ _ (omega arith) (omega arith) c.line.ensures c.put.ensures

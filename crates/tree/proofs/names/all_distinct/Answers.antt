@@ -3,5 +3,5 @@ use Rattle.tree.proofs.Printing.{few-slots}
 use native.Mathlib.Omega.{arith}
 use Rattle.tree.proofs.names.all_distinct.Goals as goal
 
-pub many_distinct-requires-in_default : goal.many_distinct-requires-in_default
-many_distinct-requires-in_default c = (few-slots c.args.d.sound.directory, omega arith)
+pub distinct_within-requires-in_default : goal.distinct_within-requires-in_default
+distinct_within-requires-in_default c = (few-slots c.args.d.sound.directory, omega arith, omega arith)

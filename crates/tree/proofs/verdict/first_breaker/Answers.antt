@@ -6,38 +6,38 @@ use native.Mathlib.Omega.{arith}
 use Rattle.tree.proofs.verdict.first_breaker.Goals as goal
 use Rattle.tree.proofs.verdict.first_breaker.Goals.{else-not-is-via-then-not-is+else-not-keeps, else-not-is-via-else-not-is}
 
-pub loop-r-init : goal.loop-r-init
-loop-r-init g c =
-    let w = walk_starts c.after_superblock-r-items.ensures c.into_iter-r-iterator.ensures.into_iter_gives in
-    record { walk = w.0; visits = rw w.1 (walks_begin c.requires.tiled) }
+pub loop-block-init : goal.loop-block-init
+loop-block-init g c =
+    let w = walk_starts c.blocks-block-items.ensures c.into_iter-block-iterator.ensures.into_iter_gives in
+    record { walk = w.0; visits = rw w.1 (walks_begin c.args.tiled.tiled) }
 
 pub keeps-requires : goal.keeps-requires
 keeps-requires g c =
-    let p = passed c.loop-r.invariant.walk _ c.in-Some.ensures.steps in
-    c.requires.tested _ (object_here (walks_at c.in-Some.r p.here c.loop-r.invariant.visits).cut (omega (arith, p.here, p.more))
-    (eqb-false _ _ (sym c.is.ensures ∙ c.if-not-is.true)))
+    let p = passed c.loop-block.invariant.walk _ c.in-Some.block c.in-Some.ensures.steps in
+    c.requires _ p.image (object_here (walks_at c.in-Some.block.at p.here c.loop-block.invariant.visits).cut (omega (arith, p.here, p.more))
+    (eqb-false _ _ (rw p.image at (sym c.is.ensures ∙ c.if-not-is.true))))
 
 pub returns-then-not-keeps : goal.returns-then-not-keeps
 returns-then-not-keeps g c =
-    let p = passed c.loop-r.invariant.walk _ c.in-Some.ensures.steps in
-    walks_broken c.in-Some.r (walks_at c.in-Some.r p.here c.loop-r.invariant.visits) (omega (arith, p.here, p.more))
-    (eqb-false _ _ (sym c.is.ensures ∙ c.if-not-is.true)) _ c.keeps.ensures c.if-not-keeps.true
+    let p = passed c.loop-block.invariant.walk _ c.in-Some.block c.in-Some.ensures.steps in
+    walks_broken _ p.image c.keeps.ensures (walks_at c.in-Some.block.at p.here c.loop-block.invariant.visits) (omega (arith, p.here, p.more))
+    (eqb-false _ _ (rw p.image at (sym c.is.ensures ∙ c.if-not-is.true))) c.if-not-keeps.true
 
-pub loop-r-preserved : goal.loop-r-preserved
-loop-r-preserved g c =
-    let p = passed c.loop-r.invariant.walk _ c.in-Some.ensures.steps in
-    let v = walks_at c.in-Some.r p.here c.loop-r.invariant.visits in
+pub loop-block-preserved : goal.loop-block-preserved
+loop-block-preserved g c =
+    let p = passed c.loop-block.invariant.walk _ c.in-Some.block c.in-Some.ensures.steps in
+    let v = walks_at c.in-Some.block.at p.here c.loop-block.invariant.visits in
     record {
       walk = p.walk;
       visits = elim c.else-not-is.branch [
         | else-not-is-via-then-not-is+else-not-keeps w ↦
-            walks_past c.in-Some.r v (omega (arith, p.here, p.more)) (eqb-false _ _ (sym c.is.ensures ∙ w.if-not-is.true)) _ w.keeps.ensures
+            walks_past _ p.image w.keeps.ensures v (omega (arith, p.here, p.more)) (eqb-false _ _ (rw p.image at (sym c.is.ensures ∙ w.if-not-is.true)))
             w.if-not-keeps.false _ _ (rw (← p.here) at p.next) refl
         | else-not-is-via-else-not-is w ↦
-            walks_free c.in-Some.r v (omega (arith, p.here, p.more)) (eqb-true _ _ (sym c.is.ensures ∙ w.if-not-is.false)) _ _
+            walks_free v (omega (arith, p.here, p.more)) (eqb-true _ _ (rw p.image at (sym c.is.ensures ∙ w.if-not-is.false))) _ _
             (rw (← p.here) at p.next) refl
       ];
     }
 
 pub returns : goal.returns
-returns g c = λ p k. visits_end (c.loop-r.invariant.visits.each p k) (passed_all c.loop-r.invariant.walk c.next.new.self c.in-None.ensures.steps)
+returns g c = λ p k. visits_end (c.loop-block.invariant.visits.each p k) (passed_all c.loop-block.invariant.walk c.next.new.self c.in-None.ensures.steps)

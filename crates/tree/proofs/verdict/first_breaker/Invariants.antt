@@ -4,8 +4,8 @@ use Rattle.alloc.proofs.Walking.{OnBlocks}
 use Rattle.tree.proofs.Visits.{Walks}
 use Rattle.tree.proofs.verdict.first_breaker.Given as goal
 
-abbrev pub invariant-loop-r : goal.invariant-loop-r
-invariant-loop-r g l = record {
-  walk : OnBlocks l.image l.r-iterator;
-  visits : Walks (goal.F-post g l.keeps) l.image l.r-iterator.next.0 (16 * l.r-iterator.next.0);
+abbrev pub invariant-loop-block : goal.invariant-loop-block
+invariant-loop-block g l = record {
+  walk : OnBlocks l.tiled.image.now l.block-iterator;
+  visits : Walks (goal.F-post g l.keeps) l.tiled.image.now l.block-iterator.next.0 (16 * l.block-iterator.next.0);
 }

@@ -4,8 +4,8 @@ use Rattle.alloc.proofs.Walking.{OnBlocks}
 use Rattle.tree.proofs.Joint.{SlotsSo}
 use Rattle.tree.proofs.verdict.first_unslotted.Given as goal
 
-abbrev pub invariant-loop-d : goal.invariant-loop-d
-invariant-loop-d l = record {
-  walk : OnBlocks l.image l.d-iterator;
-  slots : SlotsSo l.image l.initial.marks l.marks l.d-iterator.next.0 (16 * l.d-iterator.next.0);
+abbrev pub invariant-loop-block : goal.invariant-loop-block
+invariant-loop-block l = record {
+  walk : OnBlocks l.image l.block-iterator;
+  slots : SlotsSo l.image l.initial.marks l.marks l.block-iterator.next.0 (16 * l.block-iterator.next.0);
 }

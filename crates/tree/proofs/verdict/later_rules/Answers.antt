@@ -22,4 +22,4 @@ returns-in_err-later_broken c =
 pub returns : goal.returns
 returns c =
     c.kept.ensures ∙ ap (λ (o : Option ℕ). or_else 8 o unbroken) c.unless.ensures
-    ∙ judged_chain _ _ c.requires.root_is c.requires.rule_2 _ c.in_ok-later_broken.ensures refl _ c.check.ensures
+    ∙ judged_chain _ _ c.requires.root_is c.requires.rule_2 _ c.in_ok-later_broken.ensures refl _ c.chained.ensures

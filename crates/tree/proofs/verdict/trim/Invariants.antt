@@ -4,4 +4,4 @@ use Rattle.tree.specs.Marks.{trimmed}
 use Rattle.tree.proofs.verdict.trim.Given as goal
 
 abbrev pub invariant-loop-mark : goal.invariant-loop-mark
-invariant-loop-mark l = l.mark-items ≡ trimmed (take l.mark-index l.initial.mark-items) ++ drop l.mark-index l.initial.mark-items
+invariant-loop-mark l = l.marks ≡ trimmed (take l.mark-index l.initial.marks) ++ drop l.mark-index l.initial.marks

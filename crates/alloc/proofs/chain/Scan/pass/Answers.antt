@@ -1,14 +1,10 @@
 -- pass: an allocated block leaves the scan as it is; a free one must be due, and stand alone.
 use Rattle.alloc.proofs.Links.{scans_other, scans_free}
-use borrow.Author.Tests.{eqb-true}
 use mathlib.Core.Path.{sym}
 use Rattle.alloc.proofs.chain.Scan.pass.Goals as goal
-
-pub next_of-self-requires : goal.next_of-self-requires
-next_of-self-requires c = (c.requires, eqb-true _ _ (sym c.if-not-is.ensures))
 
 pub returns-then-not-is : goal.returns-then-not-is
 returns-then-not-is c = scans_other _ _ _ _ (sym c.if-not-is.ensures)
 
 pub returns : goal.returns
-returns c = scans_free _ _ _ _ (sym c.if-not-is.ensures) c.eq.ensures c.next_of-self.ensures
+returns c = scans_free _ _ _ _ (sym c.if-not-is.ensures) c.eq.ensures c.next_free-self.ensures

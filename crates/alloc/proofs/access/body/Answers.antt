@@ -1,9 +1,0 @@
--- body: the data as a part of the image.
-use Rattle.alloc.proofs.Held.{body-read}
-use native.Mathlib.Omega.{arith}
-use Rattle.std.proofs.lemmas.Grind.{common_steps}
-use mathlib.Core.Path.{refl}
-use Rattle.alloc.proofs.access.body.Goals as goal
-
-pub returns : goal.returns
-returns c = body-read _ _ c.data_start-from.ensures c.size_at-size.ensures (grind (arith, common_steps)) refl

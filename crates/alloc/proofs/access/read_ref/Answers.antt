@@ -1,6 +1,0 @@
--- read_ref: a number of the block's data.
-use Rattle.alloc.proofs.Held.{number_read}
-use Rattle.alloc.proofs.access.read_ref.Goals as goal
-
-pub returns : goal.returns
-returns c = number_read c.requires.0 _ c.requires.1 c.data_start.ensures c.read_ref.ensures

@@ -1,6 +1,0 @@
--- read_u64: a number of the block's data.
-use Rattle.alloc.proofs.Held.{number_read}
-use Rattle.alloc.proofs.access.read_u64.Goals as goal
-
-pub returns : goal.returns
-returns c = number_read c.requires.0 _ c.requires.1 c.data_start.ensures c.read_u64.ensures
