@@ -21,10 +21,10 @@ use Rattle.alloc.specs.Sound.{end_of}
 use Rattle.alloc.specs.Answers.{link_of, fit_of, GapIn}
 use Rattle.alloc.specs.Walked.{OnChain, Comes, Follows}
 use Rattle.alloc.proofs.Heads.{hook}
-use Rattle.alloc.proofs.Walks.{Walk, walk_start, hook_none, walk_meets, met_inside}
+use Rattle.alloc.proofs.Walks.{Walk, walk_start, hook_none, walk_meets, met_inside, met_sound}
 use Rattle.alloc.specs.Gaps.{gaps, tightest}
 use Rattle.alloc.specs.Gaps.{Gap as Free}
-use Rattle.alloc.proofs.Fits.{Sees, seen_inside, seen_units, seen_on, still, still_more, still_none, still-on, chain_links}
+use Rattle.alloc.proofs.Fits.{Sees, sees, seen_inside, seen_units, seen_on, still, still_more, still_none, still-on, chain_links}
 use Rattle.alloc.proofs.Fits.{links-gaps, links-stand, gap_of, Each, smallest, smallest-tightest, smallest-keeps, gap_found}
 
 pub chain_walk : {s : List ℕ} {h n : ℕ} → OnChain s h n → Walk s h n
@@ -119,12 +119,34 @@ chain-yields {s} (h ∷ gs) f q w e = (
       ),
 )
 
+-- what is so of a free block of an image: it has a unit, and neither its ref nor its units are past the image's
+pub record Bounded (l : Link) : Type 0 where
+  pub some : 0 < l.units
+  pub few : l.units < 134217729
+  pub near : l.at < 134217729
+
+chain-bounded : {s : List ℕ} (gs : List Free) (h n : ℕ) (w : Walk s h n) → still w ≡ gs → Each Bounded (chain_links s h n gs)
+chain-bounded [] h n w e = tt
+chain-bounded {s} (g ∷ gs) h n w e =
+    let p = still_more w e in
+    let m = walk_meets w p in
+    let long = w.sound.volume.long in
+    let small = w.sound.volume.extents.small in (
+      record {
+        some = omega (arith, seen_units w p (sees n), met_sound w m);
+        few = omega (arith, seen_units w p (sees n), met_inside w m, long, small);
+        near = omega (arith, met_inside w m, long, small);
+      },
+      chain-bounded gs (16 * n + 8) (u64_at s (16 * n + 8)) (seen_on w p (sees n)) (still-on w p (sees n) e),
+    )
+
 -- the chain of a sound image
 pub record Whole (s : List ℕ) (f : FreeChain) : Type 0 where
   pub links : List Link
   pub yields : YieldsList ChainSteps link_of f links
   pub gaps-of : map gap_of links ≡ gaps 2 (volume_of s).extents
   pub stand : Each (λ l. Stands l (volume_of s).extents) links
+  pub bounded : Each Bounded links
 
 pub whole-chain : {s : List ℕ} {f : FreeChain} → Sound s → (f.image.now ≡ s) × (f.hook.0 ≡ 16) × OnChain s 16 f.at.0 → Whole s f
 unfolding end_of
@@ -135,6 +157,7 @@ whole-chain {s} {f} k (q, h, o) =
       yields = record { runs = chain-yields (still w) f q w refl };
       gaps-of = links-gaps (still w) f.hook.0 f.at.0 w refl;
       stand = links-stand (still w) f.hook.0 f.at.0 w refl;
+      bounded = chain-bounded (still w) f.hook.0 f.at.0 w refl;
     }
 
 -- the tightest of them

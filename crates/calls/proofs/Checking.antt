@@ -6,16 +6,34 @@ use mathlib.Core.Path.{◌∙◌, ◌≡◌, ap, refl, sym}
 use native.Mathlib.Omega.{arith}
 use lib.ListN.{length}
 use borrow.Author.Tests.{eq-eqb, le-ltb, lt-ltb, ne_eqb}
+use Rattle.storage.proofs.Numbers.{AllBytes}
 use Rattle.tree.specs.declared.verdict.Rule.{Rule}
 use Rattle.tree.specs.declared.verdict.Rule.TheVariants.{Tiling, Root, Slots, Naming, Depth, Names, Files, Chain}
 use Rattle.tree.specs.Answers.{rule_number}
 use Rattle.tree.specs.Marks.{Judges}
-use Rattle.tree.specs.Verdict.{Verdict, verdict, well_formed}
+use Rattle.tree.specs.Verdict.{BlockRule, Verdict, rule3, rule4, rule5, rule6, rule7, verdict, well_formed}
+use Rattle.tree.specs.WellFormed.{Judged, breaks, breaks_1, breaks_2, breaks_8, number, is_well_formed}
+use Rattle.tree.proofs.Verdicts.{judged}
 use Rattle.calls.specs.declared.refusal.Refusal as declared-refusal
 use Rattle.calls.specs.declared.refusal.Refusal.TheVariants as told
 use Rattle.calls.specs.declared.refusal.Reason.TheVariants.{TooFewMarks}
 use Rattle.calls.specs.Answers.{Checks, refused_as}
 use Rattle.calls.specs.Refusal.{Accepted, For, Refusal, accepted, broken, check, check_marked, refusal_of}
+
+-- there are eight rules
+pub judged_low : {s : List ℕ} {v : Verdict} → Judged s v → v.rule ≤ 8
+judged_low (is_well_formed w) = omega arith
+judged_low (breaks_1 n b) = omega arith
+judged_low (breaks_2 t n) = omega arith
+judged_low (breaks n t a k b) = low n
+  where
+    low : (n : BlockRule) → number n ≤ 8
+    low rule3 = omega arith
+    low rule4 = omega arith
+    low rule5 = omega arith
+    low rule6 = omega arith
+    low rule7 = omega arith
+judged_low (breaks_8 t a k n) = omega arith
 
 -- by the rule's number
 pub refusal_none : (v : Verdict) → v.rule ≡ 0 → Accepted ≡ refusal_of v
@@ -41,6 +59,9 @@ never_accepted (told.Broken b) e = cc
 never_accepted (told.For w) e = cc
 
 module _ (s : List ℕ) where
+  pub rule-low : AllBytes s → {v : Verdict} → v ≡ verdict s → v.rule ≤ 8
+  rule-low h e = omega (arith, judged_low (judged s h), ap (λ (x : Verdict). x.rule) e)
+
   pub check-is : {v : Verdict} {r : Refusal} → v ≡ verdict s → r ≡ refusal_of v → r ≡ check s
   unfolding check
   check-is e f = f ∙ ap refusal_of e

@@ -9,7 +9,7 @@ use lib.Dec.{eqb}
 use lib.ListN.{get_or, length}
 use mir.Val.{Fits}
 use mir.Syntax.{w8}
-use borrow.Author.Tests.{eqb-true}
+use borrow.Author.Tests.{eqb-true, ne_eqb}
 use Rattle.storage.proofs.Booleans.{or_elim}
 use Rattle.storage.proofs.Numbers.{AllBytes}
 use Rattle.alloc.specs.Block.{Block, SFde, SFre, block_of, magic_at}
@@ -62,6 +62,16 @@ module _ {s : List ℕ} (h : AllBytes s) where
   pub magic-told : {r : ℕ} → ObjectAt s r → {t : Bool} (k : ℕ) → t ≡ eqb (magic_at s r) k → eqb (block_in s r).magic k ≡ t
   unfolding block_of
   magic-told o k q = ap (λ (b : Block). eqb b.magic k) (sym (object-at o).block) ∙ sym q
+
+  -- what is no directory is a file
+  pub other-file : {r : ℕ} (o : ObjectAt s r) {m : ℕ} → m ≡ magic_at s r → (m ≡ SFde → ⊥) → FileIn s r
+  other-file {r} o {m} q n =
+      let d : is_dir (block_in s r) ≡ false = magic-told o SFde (sym (ne_eqb (magic_at s r) SFde (λ e. n (q ∙ e)))) in
+      record { formed = o.formed; kind = only (is_file (block_in s r)) (is_dir (block_in s r)) o.kind d }
+    where
+      only : (t u : Bool) → (t || u) ≡ true → u ≡ false → t ≡ true
+      only true u e f = refl
+      only false u e f = let y : ◌≡◌ {A = ℕ} 0 1 = cc in absurd (omega arith)
 
   -- the root
   pub root-object : well_formed s ≡ true → ObjectAt s (volume_of s).root

@@ -1,7 +1,7 @@
 // Why a call is refused: its number, and the place where the image breaks a rule.
 
 ghost use Rattle.std.specs.Prelude.{◌≡◌};
-ghost use Rattle.calls.specs.Refusal.{number_of, place_of};
+ghost use Rattle.calls.specs.Refusal.{Broken, number_of, place_of};
 ghost use Rattle.calls.specs.Answers.{outcome_of};
 
 use storage::Ref;
@@ -54,6 +54,14 @@ impl From<Reason> for Refusal {
     fn from(reason: Reason) -> Refusal {
         Refusal::For(reason)
     }
+}
+
+// What is told of an image that breaks a rule, for any number and place that stand for it: these two.
+pub fn told(number: u8, place: Ref) -> (u8, Ref)
+    ensures number { result.0 ≡ number_of (Broken number place) }
+    ensures place { result.1.0 ≡ place_of (Broken number place) }
+{
+    (number, place)
 }
 
 // The number of an answer's refusal: 20 + the number of the broken rule, or the reason's; 0 for none.

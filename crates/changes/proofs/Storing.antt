@@ -5,6 +5,7 @@ use mathlib.Core.List.{List, [], ◌++◌, ◌∷◌}
 use mathlib.Core.Path.{◌∙◌, ◌≡◌, ap, refl, subst, sym}
 use native.Mathlib.Omega.{arith}
 use lib.ListN.{length}
+use borrow.Author.Tests.{le-leb, lt-leb}
 use Rattle.storage.specs.Bytes.{be64, zeroed}
 use Rattle.storage.proofs.Numbers.{AllBytes, length-be64}
 use Rattle.alloc.specs.Block.{Block, size_at}
@@ -21,7 +22,7 @@ use Rattle.alloc.proofs.Releasing.{length-zeroed}
 use Rattle.alloc.proofs.Stages.{PlacedIn, stage_holds, stage_image, stage_size, stage_start, stage_updated}
 use Rattle.tree.specs.Fields.{file_size, is_file, room}
 use Rattle.tree.proofs.Formed.{file-there, formed-file, formed-sound}
-use Rattle.calls.specs.declared.refusal.Reason.TheVariants.{IsDirectory}
+use Rattle.calls.specs.declared.refusal.Reason.TheVariants.{IsDirectory, PastRoom}
 use Rattle.calls.specs.Refusal.{Accepted, For, Refusal}
 use Rattle.calls.specs.Answers.{FileIn}
 use Rattle.calls.specs.Reading.{block_in}
@@ -178,6 +179,29 @@ module _ {s : List ℕ} (h : AllBytes s) {r : ℕ} (f : FileIn s r) where
               ∙ ap (λ (m : ℕ). image (stored s r size m (zeroed (max size z - m)))) g
               ∙ ap (λ (m : ℕ). image (stored s r size (min size m) (zeroed (max size m - min size m)))) e;
         }
+
+-- 12, or within the room; no bytes change nothing
+module _ (s : List ℕ) (r position : ℕ) (bytes : List ℕ) where
+  pub write_past : room (block_in s r) < position + length bytes → Changes (write_to s r position bytes) (For PastRoom) s
+  write_past l = rw (lt-leb (position + length bytes) (room (block_in s r)) l) (record { refusal_is = refl; image-is = refl })
+
+  module _ (l : position + length bytes ≤ room (block_in s r)) where
+    pub write-within : {t : List ℕ} → Changes (written s r position bytes) Accepted t → Changes (write_to s r position bytes) Accepted t
+    write-within c = rw (le-leb (position + length bytes) (room (block_in s r)) l) c
+
+    pub write_none : length bytes ≡ 0 → Changes (write_to s r position bytes) Accepted s
+    write_none e = write-within (go bytes e)
+      where
+        go : (y : List ℕ) → length y ≡ 0 → Changes (written s r position y) Accepted s
+        go [] q = record { refusal_is = refl; image-is = refl }
+        go (y ∷ ys) q = absurd (omega arith)
+
+module _ (s : List ℕ) (r size : ℕ) where
+  pub resize_past : room (block_in s r) < size → Changes (set_length_of s r size) (For PastRoom) s
+  resize_past l = rw (lt-leb size (room (block_in s r)) l) (record { refusal_is = refl; image-is = refl })
+
+  pub resize_within : size ≤ room (block_in s r) → {t : List ℕ} → Changes (resized s r size) Accepted t → Changes (set_length_of s r size) Accepted t
+  resize_within l c = rw (le-leb size (room (block_in s r)) l) c
 
 -- ---- the calls on a file, by how they begin
 

@@ -42,8 +42,17 @@ lines_in s x j = held_lines (levels x.depth) (objects (volume_of s)) x.at.0 x.de
 abbrev pub lines_at_from : List ℕ → Node → List (Option ℕ) → List Line
 lines_at_from s x c = object_from (levels x.depth) (objects (volume_of s)) x.at.0 x.parent.0 x.name.0 x.depth c
 
+-- the root's node
+abbrev pub root_node : List ℕ → Node
+root_node s = record { at = record { 0 = (volume_of s).root }; parent = record { 0 = (volume_of s).root }; name = record { 0 = 0 }; depth = 0 }
+
+-- the lines of the image from a cursor on
+unfoldable pub lines_from : List ℕ → List (Option ℕ) → List Line
+lines_from s c = object_from 16 (objects (volume_of s)) (volume_of s).root (volume_of s).root 0 0 c
+
 -- x is the root's node, in the same image: its lines are those of the image
 pub record IsRoot (s t : List ℕ) (x : Node) : Type 0 where
   pub same_image : t ≡ s
+  pub node-is : x ≡ root_node s
   pub top : x.depth ≡ 0
   pub all_lines : lines_at t x ≡ lines_of s

@@ -4,7 +4,7 @@ use mathlib.Core.Path.{◌≡◌}
 use mathlib.Core.Bool.{Bool, true, false, cond}
 use native.Mathlib.Omega.{arith}
 use borrow.Author.Tests.{eq-eqb, ne_eqb, lt-ltb, le-ltb, le-leb, lt-leb}
-use lib.Dec.{eqb}
+use lib.Dec.{eqb, ltb}
 use Rattle.path.specs.Name.{within, followers, lowest, highest}
 
 -- the followers of a first byte
@@ -63,6 +63,13 @@ module _ (b : ℕ) where
 either : (P : ℕ → Type 0) (q : Bool) {x y : ℕ} → P x → P y → P (cond q x y)
 either P true a b = a
 either P false a b = b
+
+-- a character has at most 3 followers
+pub followers-few : (b : ℕ) → followers b ≤ 3
+unfolding followers
+followers-few b =
+    let P : ℕ → Type 0 = λ n. n ≤ 3 in
+    either P (ltb b 0x80) (omega arith) (either P (ltb b 0xe0) (omega arith) (either P (ltb b 0xf0) (omega arith) (omega arith)))
 
 -- 80 at least
 pub lowest-high : (b : ℕ) → 0x80 ≤ lowest b

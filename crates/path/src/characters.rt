@@ -72,17 +72,17 @@ fn highest(b: u8) -> u8
 fn begin(b: u8) -> Option<Awaited>
     ensures { MatchOption result (Refuses b 0 0x80 0xbf) (λ n. Goes b 0 0x80 0xbf n.left n.low n.high) }
 {
+    if 0x80 <= b {
+        return Some(Awaited {
+            left: followers(b),
+            low: lowest(b),
+            high: highest(b),
+        });
+    }
     if forbidden_byte(b) {
         return None;
     }
-    if b < 0x80 {
-        return Some(WHOLE);
-    }
-    Some(Awaited {
-        left: followers(b),
-        low: lowest(b),
-        high: highest(b),
-    })
+    Some(WHOLE)
 }
 
 // What is to come after `b`, where `a` was to come; nothing where `b` cannot stand there.

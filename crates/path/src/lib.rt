@@ -33,7 +33,13 @@ pub fn count(path: &[u8]) -> usize
     if path.len() < 2 {
         return 0;
     }
-    path[1..].split(|b| *b == 0x2f).count()
+    let mut n = 1;
+    for byte in &path[1..] {
+        if *byte == 0x2f {
+            n += 1;
+        }
+    }
+    n
 }
 
 // Component `i` of `path`; no bytes where there is no such component.

@@ -1,6 +1,6 @@
 -- Splices: where they lie in joined lists, and splices that touch, nest or lie apart.
 use Prim.Native.Nat.{ℕ, ◌+◌, ◌-◌, ◌<◌, ◌≤◌}
-use mathlib.Core.List.{List, [], ◌++◌, append_assoc}
+use mathlib.Core.List.{List, [], ◌++◌, append_assoc, append-nil}
 use mathlib.Core.Path.{◌≡◌, ap, sym, ◌∙◌}
 use native.Mathlib.Omega.{arith}
 use native.Mathlib.Nat.{add-zero}
@@ -8,6 +8,7 @@ use lib.ListN.{length, take, drop, get_or, length-append, length-take, length-dr
 use lib.Seq.{
   take_at,
   drop_at,
+  drop-length,
   drop-drop,
   take-append-le,
   drop-append-le,
@@ -30,6 +31,13 @@ length-splice s x p h = simp (length-append, length-drop, length-take) (omega ar
 pub splice_none : (s : List ℕ) (p : ℕ) → splice s p [] ≡ s
 unfolding splice
 splice_none s p = ap (λ (n : ℕ). take p s ++ drop n s) (add-zero p) ∙ take-append-drop p s
+
+-- x over the whole of s
+pub splice_whole : (s x : List ℕ) → length x ≡ length s → splice s 0 x ≡ x
+unfolding splice
+splice_whole s x e =
+    let k : 0 + length x ≡ length s = omega arith in
+    ap (λ (n : ℕ). x ++ drop n s) k ∙ ap (λ (t : List ℕ). x ++ t) (drop-length s) ∙ append-nil x
 
 -- a run of stores
 pub sets_splice : (x s : List ℕ) (p : ℕ) → p + length x ≤ length s → sets s p x ≡ splice s p x

@@ -11,7 +11,7 @@ loop-line-preserved c =
     let a = c.loop-line.invariant.ahead in
     elim c.match-next.branch [
       | in-Some w ↦
-          let e = given w.in-Some.is c.next.ensures.steps in
+          let e = given w.in-Some.is c.next.ensures.steps.1 in
           record {
             ahead = ahead-next a e;
             stored =
@@ -20,7 +20,7 @@ loop-line-preserved c =
                 (line-stored c.args.formed.image.now c.loop-line.line-index (ahead-line a e))
                 ∙ filled-next c.args.formed.image.now c.args.lines.now c.loop-line.line-index c.loop-line-test.true;
           }
-      | in_default w ↦ absurd (omega (arith, ahead-length a, ap length (none-given _ w.in_default.is c.next.ensures.steps), c.requires, c.loop-line-test.true))
+      | in_default w ↦ absurd (omega (arith, ahead-length a, ap length (none-given _ w.in_default.is c.next.ensures.steps.1), c.requires, c.loop-line-test.true))
     ]
 
 pub returns : goal.returns
