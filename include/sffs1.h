@@ -29,7 +29,9 @@
        image length            up to 1,024    up to 65,536      above
        sffs1_format                    200             200        200
        sffs1_check_marked            6,600           6,600      6,600
-       every other call              7,300          11,500     73,000 */
+       every other call              7,300          11,500     73,000
+
+   Linking. The archive asks the program for memset, and for nothing else. */
 
 #ifndef SFFS1_H
 #define SFFS1_H

@@ -32,4 +32,5 @@ objects-few r (free u left ∷ es) = omega (arith, objects-few (r + u) es)
 pub lines-within : (n : ℕ) (s : List ℕ) (t : Tree) → Good n s t → 16 * length (lines_of s) ≤ length s
 unfolding lines_of objects
 lines-within n s t g =
-    omega (arith, ap length (root-lines (objects (volume_of s)) (volume_of s).root g.block g.node g.rep), row-few (volume_of s).root 1 g.node, g.rep.alike one, objects-few 2 (volume_of s).extents, g.sound.volume.long)
+    let lines = root-lines (objects (volume_of s)) (volume_of s).root g.block g.node g.rep in
+    omega (arith, ap length lines, row-few (volume_of s).root 1 g.node, g.rep.alike one, objects-few 2 (volume_of s).extents, g.sound.volume.long)

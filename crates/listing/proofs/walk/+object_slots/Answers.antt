@@ -22,8 +22,10 @@ slots-loop-j-preserved-then-not-is_directory t c =
 
 pub slots-object-at-requires : goal.slots-object-at-requires
 slots-object-at-requires t c =
-    let y = c.in-Some.ensures in
-    (omega (arith, c.decreases, below y (omega (arith, c.open_slots-j-end.ensures))), child-room y (omega (arith, c.open_slots-j-end.ensures)) c.loop-j.at 4294967296 (omega (arith, c.loop-j.invariant.left, c.requires)))
+    let y = c.in-Some.ensures in (
+      omega (arith, c.decreases, below y (omega (arith, c.open_slots-j-end.ensures))),
+      child-room y (omega (arith, c.open_slots-j-end.ensures)) c.loop-j.at 4294967296 (omega (arith, c.loop-j.invariant.left, c.requires)),
+    )
 
 pub slots-loop-j-preserved : goal.slots-loop-j-preserved
 slots-loop-j-preserved t c = storing_on c.loop-j.invariant _ _ (child-lines c.in-Some.ensures (omega (arith, c.open_slots-j-end.ensures))) c.object-at.ensures

@@ -6,4 +6,6 @@ use Rattle.listing.proofs.lines.Visit.line.Goals as goal
 
 pub returns : goal.returns
 unfolding line_of
-returns c = ap (λ (k : Kind). record { ref = c.args.self.node.at.0; parent = c.args.self.node.parent.0; name = c.args.self.node.name.0; depth = c.args.self.node.depth; kind = k }) c.kind_at-kind.ensures
+returns c =
+    let n = c.args.self.node in
+    ap (λ (k : Kind). record { ref = n.at.0; parent = n.parent.0; name = n.name.0; depth = n.depth; kind = k }) c.kind_at-kind.ensures
