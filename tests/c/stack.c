@@ -1,5 +1,5 @@
-/* How much stack each call takes: a table, in bytes, by the length of the image; the return address and what is passed
-   on the stack are counted. Each call runs on a stack of its own that was painted before; the lowest byte that lost its
+/* How much stack each call takes: a table, in bytes, by the length of the image. The return address is counted, and what
+   is passed on the stack too, with a compiler that pushes it for each call, as gcc does. Each call runs on a stack of its own that was painted before; the lowest byte that lost its
    paint tells how deep it came. Fails where a call takes more than include/sffs1.h says. tests/run builds this test
    without and with optimisation, since the frame from which the calls are made depends on it. */
 
@@ -113,7 +113,7 @@ static void build_wide(void) {
 }
 
 /* A root with some slots, and two files whose names a check tells apart by their last bytes alone: their 16 bits are
-   equal, their lengths, and the bytes in front. The path is the first's. */
+   equal, their lengths, and the bytes in front. The path is the second's. */
 static void build_alike(void) {
     static const char *const alike[] = {"/samebkz", "/sameaaa"};
     uint64_t ref, place, slots = length / SFFS1_UNIT - 11;

@@ -56,8 +56,8 @@ impl From<Reason> for Refusal {
     }
 }
 
-// What is told of an image that breaks a rule, for any number and place that stand for it: these two.
-pub fn told(number: u8, place: Ref) -> (u8, Ref)
+// What is told where an image is refused with this number and this place, whatever they are: the definition's `Broken` may have any.
+pub fn number_and_place(number: u8, place: Ref) -> (u8, Ref)
     ensures number { result.0 ≡ number_of (Broken number place) }
     ensures place { result.1.0 ≡ place_of (Broken number place) }
 {
