@@ -1,7 +1,8 @@
-/* How much stack each call takes: a table, in bytes, by the length of the image. The return address is counted, and what
-   is passed on the stack too, with a compiler that pushes it for each call, as gcc does. Each call runs on a stack of its own that was painted before; the lowest byte that lost its
-   paint tells how deep it came. Fails where a call takes more than include/sffs1.h says. tests/run builds this test
-   without and with optimisation, since the frame from which the calls are made depends on it. */
+/* How much stack each call takes: a table, in bytes, by the length of the image. The return address is counted, and
+   what is passed on the stack too, with a compiler that pushes it for each call, as gcc does. Each call runs on a
+   stack of its own that was painted before; the lowest byte that lost its paint tells how deep it came. Fails where a
+   call takes more than include/sffs1.h says. tests/run builds this test without and with optimisation, since the frame
+   from which the calls are made depends on it. */
 
 #define _XOPEN_SOURCE 600
 
